@@ -35,7 +35,7 @@ use Rattle.wtf_region.specs.Inside.{is_inside}
 use Rattle.wtf_log.specs.Calls.{own_of}
 use Rattle.wtf_rw.specs.Ops.{OwnBy}
 use Rattle.wtf_rw.specs.Stored.{SliceBytes}
-use Rattle.wtf_replay.specs.Built.{data_of}
+use Rattle.wtf_replay.specs.Built.{call_data}
 use Rattle.wtf_replay.specs.Called.{IsCalled}
 use Rattle.wtf_replay.specs.Causes.{IsOwnOf}
 use Rattle.wtf_replay.specs.Insides.{LogBytes}
@@ -126,7 +126,7 @@ module _ {S : Type 0} (kind : StoreKind S) (old new : Dev S) where
   pub own_added : (w : Map) (s : SessionView) (o : Op (List ℕ)) (own : Option Slice) → length (stores new) ≡ length (stores old)
       → TellsAll kind (stores old) → IsOwnOf kind old new w s o own → (P : List Place → Bool) → Adds P → SliceBytes P own
   own_added w s o own same all h =
-      by o h (told_slice (told_in kind new) own (data_of o) (own_told_of kind old new w s o own same all h)) (own_inside kind old new w s o own h)
+      by o h (told_slice (told_in kind new) own (call_data o) (own_told_of kind old new w s o own same all h)) (own_inside kind old new w s o own h)
     where
       by : (o : Op (List ℕ)) → IsOwnOf kind old new w s o own → SliceBytes (is_told (told_in kind new)) own
           → SliceBytes (is_inside kind (stores new) old.settings) own → (P : List Place → Bool) → Adds P → SliceBytes P own

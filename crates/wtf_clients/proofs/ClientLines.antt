@@ -22,7 +22,7 @@ use Rattle.wtf_replay.specs.Causes.{fault_answer}
 use Rattle.wtf_replay.specs.Refusals.{call_refusal, step_refusal}
 use Rattle.wtf_replay.specs.Verbs.{Turn, turn, CallOf, StepOf, CommitOf}
 use Rattle.wtf_replay.specs.Views.{TxnView}
-use Rattle.wtf_clients.specs.Asked.{asked_of, lent_by}
+use Rattle.wtf_clients.specs.Asked.{line_asked, lent_by}
 use Rattle.wtf_clients.specs.Leaving.{LeavesAlone}
 use Rattle.wtf_clients.specs.Lines.{Line, line, LineOf}
 use Rattle.wtf_clients.specs.Named.{TablesBytes}
@@ -63,7 +63,7 @@ module _ {S : Type 0} {kind : StoreKind S} (laws : KindLaws kind) (dev new : Dev
     call_leaves : (r : Result Answer Fault) → CallOf (by_verb old.kv) o r → LeavesAlone kind (between dev new) (lent_by dev new) old e
     call_leaves r did =
         leaves_by kind dev new old e did.leaves.down did.leaves.syncs
-        (call_grows kind dev new (seen old.kv x.at) x.session o (asked_of kind (between dev new) (lent_by dev new) old e) did.leaves
+        (call_grows kind dev new (seen old.kv x.at) x.session o (line_asked kind (between dev new) (lent_by dev new) old e) did.leaves
         (λ place at. (dev, new, lent_to dev new ring, (x, there, at))))
         (λ none. refused_lists dev new _ _ (call_refusal x) (as_words x y dev new r (call_refusal x) did.instead) (none_made old c x (verb.Call o) there none))
 

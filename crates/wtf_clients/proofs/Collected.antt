@@ -24,9 +24,9 @@ use Rattle.wtf_region.specs.Devs.{stores, remembered, told_in}
 use Rattle.wtf_region.specs.Inside.{is_inside}
 use Rattle.wtf_region.proofs.InsideLaws.{inside_stays}
 use Rattle.wtf_replay.specs.Insides.{lists_have}
-use Rattle.wtf_compact.specs.Jobs.{region_at}
+use Rattle.wtf_compact.specs.Jobs.{region_in_map}
 use Rattle.wtf_gc.specs.declared.extent.Extent.{Extent}
-use Rattle.wtf_gc.specs.Extents.{covers}
+use Rattle.wtf_gc.specs.Extents.{extents_cover}
 use Rattle.wtf_gc.specs.Frees.{LiesOn, lie_in}
 use Rattle.wtf_gc.specs.Views.{RunView, is_garbage}
 use Rattle.wtf_clients.specs.Views.{TablesView}
@@ -83,7 +83,7 @@ module _ {S : Type 0} {kind : StoreKind S} (laws : KindLaws kind) {before after 
         freed = λ p here. ⊎_elim
             (λ was. lie.freed p was)
             (λ there. let lt = freed_low old freed.ranges freed.garbage p there in let le = lie.older p.server p.file in omega (arith, lt, le))
-            (or_cases (covers old.beside.gc.freed p) (lie_in freed.ranges p) (freed.only p here));
+            (or_cases (extents_cover old.beside.gc.freed p) (lie_in freed.ranges p) (freed.only p here));
       }))
 
   module _ (safe : IsSafe before.settings.region (told_in kind before) old) where
@@ -126,7 +126,7 @@ module _ {S : Type 0} {kind : StoreKind S} (laws : KindLaws kind) {before after 
           let w : Map = metadata_at old.kv n in
           let F : Tests = (off X, lists_have size later (off X)) in
           let G : Tests = (off X, lists_have size told (off X)) in
-          maybe_passes set size told F G (passes_back set told later on size (off X)) (region_at w i k) (m.ahead n seen i k part)
+          maybe_passes set size told F G (passes_back set told later on size (off X)) (region_in_map w i k) (m.ahead n seen i k part)
           (map_region (are_in set) (lists_have size told (are_in set)) w (collect_apart.live n (seen_live old r sound runs n seen)) i k);
     }
 
@@ -136,9 +136,9 @@ module _ {S : Type 0} {kind : StoreKind S} (laws : KindLaws kind) {before after 
 
     pub collect_safe : AreSound old → IsSafe size later new
     collect_safe sound = from_view (IsSafe size later) (record {
-      gone = listed_after (off (covers old.beside.gc.freed)) (off (covers new.beside.gc.freed))
-          (off_both (covers old.beside.gc.freed) (covers new.beside.gc.freed) freed.ranges freed.only) safe.gone;
-      done = none_now (λ p. is_below old.beside.gc.older p && not (covers old.beside.gc.newer.found p)) safe.done;
+      gone = listed_after (off (extents_cover old.beside.gc.freed)) (off (extents_cover new.beside.gc.freed))
+          (off_both (extents_cover old.beside.gc.freed) (extents_cover new.beside.gc.freed) freed.ranges freed.only) safe.gone;
+      done = none_now (λ p. is_below old.beside.gc.older p && not (extents_cover old.beside.gc.newer.found p)) safe.done;
       going = λ r runs X missed. none_now X (safe.going r runs X (missed_before sound r runs X missed));
       since_txns = safe.since_txns;
       since_jobs = safe.since_jobs;

@@ -25,7 +25,7 @@ use Rattle.wtf_clients.specs.Named.{TablesBytes, any_byte, no_slice, has_copies}
 use Rattle.wtf_clients.specs.Outcomes.{no_load}
 use Rattle.wtf_clients.specs.Serves.{AreBased, AreFull}
 use Rattle.wtf_clients.specs.Sounds.{AreSound, IsAlike}
-use Rattle.wtf_clients.specs.Turns.{Stays, DumpReads}
+use Rattle.wtf_clients.specs.Turns.{TablesStay, DumpReads}
 use Rattle.wtf_clients.specs.Views.{TablesView, metadata_now}
 use Rattle.wtf_clients.proofs.Caused.{has_failed}
 use Rattle.wtf_clients.proofs.Dumping.{true_now, dump_may, dump_plain, dump_caused}
@@ -52,7 +52,7 @@ module _ {S : Type 0} {kind : StoreKind S} (laws : KindLaws kind) (dev new : Dev
   abbrev dumping : Line S
   dumping = line kind dev new old after
 
-  dump_stays : (c : ℕ) → Stays old after c
+  dump_stays : (c : ℕ) → TablesStay old after c
   dump_stays c = record {
     clients = sets_same c old.clients old.clients refl;
     number = number;

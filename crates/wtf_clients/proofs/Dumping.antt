@@ -20,7 +20,7 @@ use Rattle.wtf_model.specs.declared.answer.Word.{Word}
 use Rattle.wtf_model.specs.declared.answer.Word.TheVariants.{NoEnt, IsDir, Long}
 use Rattle.wtf_model.specs.declared.limits.TheConstants.{MAX_DUMPED, MAX_REGIONS}
 use Rattle.wtf_model.specs.Lawful.{MayFailRead, is_short, dumped, or_refusal}
-use Rattle.wtf_model.specs.Tree.{Tree, TreeNode, Dir, File, ◌>>=◌, bytes_of}
+use Rattle.wtf_model.specs.Tree.{PathSet, Tree, TreeNode, Dir, File, ◌>>=◌, bytes_of}
 use Rattle.wtf_values.specs.declared.key.Key.TheVariants.{Path}
 use Rattle.wtf_values.specs.declared.value.Node.{Node}
 use Rattle.wtf_values.specs.declared.value.Node.TheVariants.{Folder, File as FileNode}
@@ -32,7 +32,8 @@ use Rattle.wtf_meta.specs.Files.{FileView, IsFile, file_len, file_origin}
 use Rattle.wtf_meta.specs.FileEdits.{file_of}
 use Rattle.wtf_meta.specs.Maps.{Map}
 use Rattle.wtf_meta.specs.NameEdits.{node_of}
-use Rattle.wtf_meta.specs.Trees.{NodeAt, IsBody, Stands}
+use Rattle.wtf_meta.specs.Trees.{NodeAt, Stands}
+use Rattle.wtf_meta.proofs.Nodes.{FileAt, node_of-is, node-file}
 use Rattle.wtf_meta.proofs.Named.{file_bytes}
 use Rattle.wtf_index.specs.Checks.{stands_at}
 use Rattle.wtf_region.specs.declared.dev.Dev.{Dev}
@@ -94,22 +95,14 @@ module _ (b : ℕ) (told : Told) (w : Map) where
   folder_at None o h is = absurd (cc)
   folder_at (Some (value.Node Folder)) None h is = absurd h
   folder_at (Some (value.Node Folder)) (Some Dir) h is = refl
-  folder_at (Some (value.Node Folder)) (Some (File bytes)) h is = absurd h
+  folder_at (Some (value.Node Folder)) (Some (File paths bytes)) h is = absurd h
   folder_at (Some (value.Node (FileNode i))) o h is = absurd (cc)
   folder_at (Some (value.Names s)) o h is = absurd h
   folder_at (Some (value.Last r)) o h is = absurd h
   folder_at (Some (value.Region g)) o h is = absurd h
 
-  pub file_at : (v : Option Value) (o : Option TreeNode) (i : InodeId) → NodeAt b told w v o → node_of v ≡ Some (FileNode i)
-      → (bytes : List ℕ) × (o ≡ Some (File bytes)) × IsBody b told w i bytes
-  file_at None o i h is = absurd (cc)
-  file_at (Some (value.Node Folder)) o i h is = absurd (cc)
-  file_at (Some (value.Node (FileNode j))) None i h is = absurd h
-  file_at (Some (value.Node (FileNode j))) (Some Dir) i h is = absurd h
-  file_at (Some (value.Node (FileNode j))) (Some (File bytes)) i h is = (bytes, refl, subst (λ k. IsBody b told w k bytes) (let same : j ≡ i = cc in same) h)
-  file_at (Some (value.Names s)) o i h is = absurd h
-  file_at (Some (value.Last r)) o i h is = absurd h
-  file_at (Some (value.Region g)) o i h is = absurd h
+  pub file_at : (v : Option Value) (o : Option TreeNode) (i : InodeId) → NodeAt b told w v o → node_of v ≡ Some (FileNode i) → FileAt b told w i o
+  file_at v o i h is = node-file b told w v o i h (node_of-is v (FileNode i) is)
 
 -- the definitions' answer, by what stands in the tree
 abbrev answer_at : Option TreeNode → Answer
@@ -125,8 +118,8 @@ short_by : (b : Bool) (bytes : List ℕ) → (if b then answer.Shown bytes else 
 short_by true bytes = refl
 short_by false bytes = refl
 
-file_whole : (bytes : List ℕ) → file_answer bytes ≡ answer_at (Some (File bytes))
-file_whole bytes = short_by (nat_le (length bytes) MAX_DUMPED) bytes
+file_whole : (paths : PathSet) (bytes : List ℕ) → file_answer bytes ≡ answer_at (Some (File paths bytes))
+file_whole paths bytes = short_by (nat_le (length bytes) MAX_DUMPED) bytes
 
 -- lists that are true for the tables are so for the map now
 pub true_now : (tables : TablesView) (size : ℕ) (told : Told) (lists : TrueBut) → AreTrue size told lists tables
@@ -150,7 +143,7 @@ pub dumps_file : (z : ℕ) (told : Told) (lists : TrueBut) (w : Map) (p : List �
     IsShownFile z told lists w i a → IsDumped z told lists w p a
 dumps_file z told lists w p i a is shows cache tx k t st =
     let found = file_at z told w (w (Path p)) (get t p) i (st.nodes p) is in
-    shows cache st.bytes found.0 found.2 ∙ file_whole found.0 ∙ sym (ap answer_at found.1)
+    shows cache st.bytes found.bytes found.body ∙ file_whole found.paths found.bytes ∙ sym (ap answer_at found.there)
 
 -- ---- why the bytes were not shown
 may_read : (servers : ℕ) (why : Fault) (a : Answer) (bytes : List ℕ) (d : Answer) → fault_answer why ≡ Some a → 0 < length bytes → d ≡ answer.Shown bytes →
@@ -199,8 +192,8 @@ module _ {S : Type 0} {kind : StoreKind S} (laws : KindLaws kind) (old new : Dev
       let z : ℕ = old.settings.region in
       let v : FileView = file_of lacks.inode w in
       let found = file_at z told w (w (Path p)) (get t p) lacks.inode (st.nodes p) lacks.there in
-      let bytes : List ℕ = found.0 in
-      let len = found.2.bytes_are.len in
+      let bytes : List ℕ = found.bytes in
+      let len = found.body.bytes_are.len in
       let short = lacks.file.short in
       let count : ℕ = min (file_len z v) (MAX_REGIONS * z) in
       let known = read_known lacks.inode count why a is lacks.file.lacks in
@@ -208,7 +201,7 @@ module _ {S : Type 0} {kind : StoreKind S} (laws : KindLaws kind) (old new : Dev
       let whole : file_answer bytes ≡ answer.Shown bytes = ap (λ b. if b then answer.Shown bytes else answer.Refused Long)
       (le-leb (length bytes) MAX_DUMPED (omega (arith, short, len))) in
       may_read old.settings.servers why a bytes (or_refusal (dumped t p)) is (omega (arith, some, len))
-      (ap answer_at found.1 ∙ sym (file_whole bytes) ∙ whole) known.1
+      (ap answer_at found.there ∙ sym (file_whole found.paths bytes) ∙ whole) known.1
 
   -- and it has its cause
   pub dump_caused : (based : (Slice → Bool) → Type 0) (full : Type 0) (O : Slice → Bool) → ((Q : Slice → Bool) → based Q → MapBytes any_byte Q w)

@@ -23,7 +23,7 @@ use Rattle.wtf_region.specs.Cached.{CacheTrue}
 use Rattle.wtf_region.specs.Devs.{GoesOn, stores, remembered, is_down_in, shown_in}
 use Rattle.wtf_region.proofs.Spans.{goes_on}
 use Rattle.wtf_gc.specs.declared.extent.Extent.{Extent}
-use Rattle.wtf_gc.specs.Extents.{covers}
+use Rattle.wtf_gc.specs.Extents.{extents_cover}
 use Rattle.wtf_gc.specs.Frees.{LiesOn, AreApart, CountsFreed, lie_in, tried_on}
 use Rattle.wtf_gc.specs.Views.{ScanView, GcView, mark_of, is_garbage}
 use Rattle.wtf_clients.specs.Views.{TablesView, with_gc}
@@ -90,7 +90,7 @@ pub record Freed {S : Type 0} (kind : StoreKind S) (before after : Dev S) (old n
   pub lists : (already : List (ℕ × Range)) → CacheTrue (shown_in kind before) before.settings.region already (remembered before)
       → CacheTrue (shown_in kind after) before.settings.region (with_ranges already ranges) (remembered after)
   pub is : new ≡ with_freed old new.beside.gc.freed
-  pub only : (p : Place) → covers new.beside.gc.freed p ≡ true → (covers old.beside.gc.freed p || lie_in ranges p) ≡ true
+  pub only : (p : Place) → extents_cover new.beside.gc.freed p ≡ true → (extents_cover old.beside.gc.freed p || lie_in ranges p) ≡ true
 
 kept_freed : (old new : TablesView) (ranges : List (ℕ × Range)) → KeepsStore old new → CountsFreed old.beside.gc new.beside.gc ranges
     → new ≡ with_freed old new.beside.gc.freed
@@ -105,7 +105,8 @@ module _ {S : Type 0} {kind : StoreKind S} (laws : KindLaws kind) (before after 
   freed_by : (ranges : List (ℕ × Range)) → AreApart ranges
       → ((p : Place) → lie_in ranges p ≡ true → (nat_eq p.server k && is_garbage old.beside.gc p) ≡ true) → k < before.settings.servers
       → GoesOn kind before after ranges → new ≡ with_freed old new.beside.gc.freed
-      → ((p : Place) → covers new.beside.gc.freed p ≡ true → (covers old.beside.gc.freed p || lie_in ranges p) ≡ true) → Freed kind before after old new
+      → ((p : Place) → extents_cover new.beside.gc.freed p ≡ true → (extents_cover old.beside.gc.freed p || lie_in ranges p) ≡ true)
+      → Freed kind before after old new
   freed_by ranges apart are known goes is only = record {
     ranges = ranges;
     apart = apart;
@@ -135,7 +136,7 @@ module _ {S : Type 0} {kind : StoreKind S} (laws : KindLaws kind) (before after 
       freed_by (f.ranges ++ tried_on f.mid (k, f.tried)) (front_apart f.ranges f.rest down k f.tried f.are.apart)
       (λ p here. sym (f.are.exact p) ∙ tried_among down f.ranges f.rest k f.tried p here) known (goes_on laws f.goes f.last)
       (kept_freed old new f.ranges h.keeps f.counts)
-      (λ p here. more_behind (covers old.beside.gc.freed p) f.ranges (tried_on f.mid (k, f.tried)) p (sym (f.counts.freed p) ∙ here))
+      (λ p here. more_behind (extents_cover old.beside.gc.freed p) f.ranges (tried_on f.mid (k, f.tried)) p (sym (f.counts.freed p) ∙ here))
 
   none_freed : new ≡ old → after ≡ before → Freed kind before after old new
   none_freed same stays = record {
@@ -147,7 +148,7 @@ module _ {S : Type 0} {kind : StoreKind S} (laws : KindLaws kind) (before after 
     lists = λ already h.
         subst (λ (dev : Dev S). CacheTrue (shown_in kind dev) before.settings.region already (remembered dev)) (sym stays) h;
     is = subst (λ (t : TablesView). t ≡ with_freed old t.beside.gc.freed) (sym same) refl;
-    only = λ p here. or_left (covers old.beside.gc.freed p) false (ap (λ (t : TablesView). covers t.beside.gc.freed p) (sym same) ∙ here);
+    only = λ p here. or_left (extents_cover old.beside.gc.freed p) false (ap (λ (t : TablesView). extents_cover t.beside.gc.freed p) (sym same) ∙ here);
   }
 
   pub collect_freed : (a : Answer) → CollectTurn kind before after old new k a → Freed kind before after old new
@@ -179,7 +180,7 @@ pub freed_low : (old : TablesView) (ranges : List (ℕ × Range)) → ((p : Plac
 freed_low old ranges are p there =
     let g : GcView = old.beside.gc in
     ltb-true p.at (mark_of g.older p.server p.file)
-    (and_parts (is_below g.older p) (not (covers g.older.found p || (covers g.newer.found p || covers g.freed p))) (are p there)).0
+    (and_parts (is_below g.older p) (not (extents_cover g.older.found p || (extents_cover g.newer.found p || extents_cover g.freed p))) (are p there)).0
 
 -- ranges below a scan's marks lie in their files
 pub ranges_lie : (size : ℕ → ℕ → ℕ) (servers : ℕ) (s : ScanView) → AreUpto s size → (ranges : List (ℕ × Range)) → AreApart ranges

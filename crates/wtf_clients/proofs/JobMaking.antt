@@ -34,7 +34,7 @@ use Rattle.wtf_compact.specs.Jobs.{JobView, IsJobOf, target_region}
 use Rattle.wtf_compact.specs.Planned.{IsPlanned, KeepsRegion, TellsRegion}
 use Rattle.wtf_clients.specs.Views.{Jobs, BesideView, TablesView, of_label, was_job, with_jobs, with_labels, metadata_now}
 use Rattle.wtf_clients.specs.Sounds.{SetsJob}
-use Rattle.wtf_clients.specs.Turns.{AreTrue, Reads}
+use Rattle.wtf_clients.specs.Turns.{AreTrue, ReadsLists}
 use Rattle.wtf_clients.specs.Planning.{refusal_of, plan_answer}
 use Rattle.wtf_clients.specs.JobTurns.{KeepsOthers, IsMadeOf, Plans, PlanTurn, PlanFails, FreePlan, plan_due, Puts, DropsJob, PutTurn, DropTurn}
 use Rattle.wtf_clients.proofs.JobPins.{set_back, set_none}
@@ -92,7 +92,7 @@ made_of kind old new t now value h = record {
 module _ {S : Type 0} (kind : StoreKind S) (old new : Dev S) (t : Target) (now value : Option RegionValue) (goes : GoesOn kind old new [])
     (h : IsPlanned kind old new t now value) where
   -- what was read is what its slice decodes to
-  pub made_known : (Reads (seeing kind (between old new) (lent_by old new))).known (region_facts now h.under)
+  pub made_known : (ReadsLists (seeing kind (between old new) (lent_by old new))).known (region_facts now h.under)
   made_known = knows kind old new goes (region_facts now h.under) h.told
 
   -- and over stores that tell, so is what was stored

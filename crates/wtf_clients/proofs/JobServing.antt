@@ -40,13 +40,13 @@ use Rattle.wtf_region.specs.Showing.{OnlyRead}
 use Rattle.wtf_steps.proofs.FaultWays.{IsOfServers, region_fault_known}
 use Rattle.wtf_replay.specs.Causes.{fault_answer}
 use Rattle.wtf_compact.specs.declared.target.Target.{Target}
-use Rattle.wtf_compact.specs.Jobs.{JobView, job_target, region_at, target_region}
-use Rattle.wtf_compact.specs.Planned.{IsPlanned, IsShort, SparesStores, StoresList, LacksServers, IsPlanFault, spills}
+use Rattle.wtf_compact.specs.Jobs.{JobView, job_target, region_in_map, target_region}
+use Rattle.wtf_compact.specs.Planned.{IsPlanned, IsUnstoredShort, SparesStores, StoresList, LacksServers, IsPlanFault, spills}
 use Rattle.wtf_compact.proofs.Sparing.{place_same}
 use Rattle.wtf_clients.specs.Views.{TablesView, of_label, metadata_now}
 use Rattle.wtf_clients.specs.Sounds.{AreSound}
 use Rattle.wtf_clients.specs.Named.{TablesBytes, any_byte, no_slice, has_copies}
-use Rattle.wtf_clients.specs.Asked.{Asked, asked_of, lent_by, IsPlaced}
+use Rattle.wtf_clients.specs.Asked.{Asked, line_asked, lent_by, IsPlaced}
 use Rattle.wtf_clients.specs.Outcomes.{Load, no_load, load_of_job, AddsThisList, AddsBytes, IsUnspilled, HasToStore, HasCause}
 use Rattle.wtf_clients.specs.Serves.{AreBased, AreFull, ServesLine}
 use Rattle.wtf_clients.specs.Leaving.{GrowsOnly}
@@ -63,7 +63,7 @@ pub region_bytes : (P : List Place → Bool) (Q : Slice → Bool) (w : Map) (t :
 region_bytes P Q w t h = region_of_bytes P Q (w (Region t.inode t.region)) (h (Region t.inode t.region))
 
 -- a compaction stores nothing
-pub short_none : (stored : List ListFact) (value : Option RegionValue) → IsShort stored value → stored ≡ []
+pub short_none : (stored : List ListFact) (value : Option RegionValue) → IsUnstoredShort stored value → stored ≡ []
 short_none stored None h = h
 short_none stored (Some x) h = h.0
 
@@ -114,7 +114,7 @@ module _ {S : Type 0} {kind : StoreKind S} (laws : KindLaws kind) (old new : Dev
   now = metadata_now before.kv
 
   abbrev asked : Asked
-  asked = asked_of kind (between old new) (lent_by old new) before (event.Plan j jk p r)
+  asked = line_asked kind (between old new) (lent_by old new) before (event.Plan j jk p r)
 
   module _ (after : TablesView) (x : JobView) (none : of_label before.beside.jobs j ≡ None) (plans : Plans before after j jk p r x)
       (did : IsPlanned kind old new x.target (target_region now x.target) x.value) (own : MaybeBytes (inside_of kind new) any_slice x.value) where
@@ -160,7 +160,7 @@ module _ {S : Type 0} {kind : StoreKind S} (laws : KindLaws kind) (old new : Dev
           (
             x.target.inode,
             plans.job.leads,
-            ap (λ n. end_of (region_at now x.target.inode n)) (sym plans.job.region) ∙ ends (plans.job.kind_is ∙ is) empty,
+            ap (λ n. end_of (region_in_map now x.target.inode n)) (sym plans.job.region) ∙ ends (plans.job.kind_is ∙ is) empty,
           ),
           (did.unwritten empty).lengths,
         ))
@@ -173,14 +173,14 @@ module _ {S : Type 0} {kind : StoreKind S} (laws : KindLaws kind) (old new : Dev
             let le = ltb-false 0 (end_of (target_region now x.target)) none_there in
             omega (arith, le)
 
-        none_empty : (i : InodeId) → LeadsTo now p i → end_of (region_at now i r) ≡ 0 → x.target.kind ≡ Spill
+        none_empty : (i : InodeId) → LeadsTo now p i → end_of (region_in_map now i r) ≡ 0 → x.target.kind ≡ Spill
             → spills x.target.kind (end_of (target_region now x.target)) ≡ true → ⊥
         none_empty i leads zero spill some =
             let one : i ≡ x.target.inode = one_leads (now (Path p)) i x.target.inode leads plans.job.leads in
             let there : nat_lt 0 (end_of (target_region now x.target)) ≡ true
             = sym (ap (λ k. spills k (end_of (target_region now x.target))) spill) ∙ some in
-            let end : end_of (region_at now i r) ≡ end_of (target_region now x.target)
-            = ap (λ k. end_of (region_at now k r)) one ∙ ap (λ n. end_of (region_at now x.target.inode n)) (sym plans.job.region) in
+            let end : end_of (region_in_map now i r) ≡ end_of (target_region now x.target)
+            = ap (λ k. end_of (region_in_map now k r)) one ∙ ap (λ n. end_of (region_in_map now x.target.inode n)) (sym plans.job.region) in
             let more = ltb-true 0 (end_of (target_region now x.target)) there in
             omega (arith, more, end, zero)
 
@@ -199,16 +199,16 @@ module _ {S : Type 0} {kind : StoreKind S} (laws : KindLaws kind) (old new : Dev
 
   -- ---- one that failed, of the file to which the path leads
   module _ (i : InodeId) (leads : LeadsTo now p i) (why : Fault) (a : Answer) (is : fault_answer why ≡ Some a)
-      (fails : IsPlanFault kind old new (job_target i r jk) (region_at now i r) why) where
-    region_in : (P : List Place → Bool) (Q : Slice → Bool) → TablesBytes P Q before → MaybeBytes P Q (region_at now i r)
+      (fails : IsPlanFault kind old new (job_target i r jk) (region_in_map now i r) why) where
+    region_in : (P : List Place → Bool) (Q : Slice → Bool) → TablesBytes P Q before → MaybeBytes P Q (region_in_map now i r)
     region_in P Q h = region_of_bytes P Q (now (Region i r)) (now_bytes P Q before h (Region i r))
 
     -- the machine allows it, where a plan is due
-    write_may : (w : Fault) → fault_answer w ≡ Some a → LacksServers kind old new (job_target i r jk) (region_at now i r) w
+    write_may : (w : Fault) → fault_answer w ≡ Some a → LacksServers kind old new (job_target i r jk) (region_in_map now i r) w
         → MayFailPlan old.settings.servers jk answer.Planned a
     write_may fault.Write same lacks = by jk lacks.spilled
       where
-        by : (k : JobKind) → spills k (end_of (region_at now i r)) ≡ true → MayFailPlan old.settings.servers k answer.Planned a
+        by : (k : JobKind) → spills k (end_of (region_in_map now i r)) ≡ true → MayFailPlan old.settings.servers k answer.Planned a
         by Compact bad = absurd (true≢false (sym bad))
         by Spill good = subst (λ (b : Answer). MayFailPlan old.settings.servers Spill answer.Planned b) (let e : answer.FaultWrite ≡ a = cc in e) (inr tt)
     write_may (fault.Read k) same lacks = absurd lacks.out
@@ -228,16 +228,16 @@ module _ {S : Type 0} {kind : StoreKind S} (laws : KindLaws kind) (old new : Dev
     pub plan_may : MayFailPlan old.settings.servers jk answer.Planned a
     plan_may = by fails
       where
-        by : IsPlanFault kind old new (job_target i r jk) (region_at now i r) why → MayFailPlan old.settings.servers jk answer.Planned a
+        by : IsPlanFault kind old new (job_target i r jk) (region_in_map now i r) why → MayFailPlan old.settings.servers jk answer.Planned a
         by (inl memory) = absurd (memory_none why a is memory)
         by (inr (inl lacks)) = read_may why is
-            (region_fault_known kind old new (region_at now i r) why lent (region_in (inside_of kind old) any_slice inside) lacks.cause)
+            (region_fault_known kind old new (region_in_map now i r) why lent (region_in (inside_of kind old) any_slice inside) lacks.cause)
         by (inr (inr lacks)) = write_may why is lacks
 
     -- Why it failed. Each byte has as many copies as there are replicas where `full` holds, and O then holds of each base.
     module _ (full : Type 0) (O : Slice → Bool) (copies : full → TablesBytes (has_copies old.settings.replicas) O before) where
       -- too few servers took the list
-      write_caused : (w : Fault) → fault_answer w ≡ Some a → LacksServers kind old new (job_target i r jk) (region_at now i r) w
+      write_caused : (w : Fault) → fault_answer w ≡ Some a → LacksServers kind old new (job_target i r jk) (region_in_map now i r) w
           → HasCause kind (between old new) old.settings ⊥ (AreBased before) full (load_of_job jk) a
       write_caused fault.Write same lacks =
           let few : AreTooFew kind (between old new) old.settings.servers old.settings.replicas =
@@ -246,7 +246,7 @@ module _ {S : Type 0} {kind : StoreKind S} (laws : KindLaws kind) (old new : Dev
           subst (λ (b : Answer). HasCause kind (between old new) old.settings ⊥ (AreBased before) full (load_of_job jk) b)
           (let e : answer.FaultWrite ≡ a = cc in e) (by jk lacks.spilled, few)
         where
-          by : (k : JobKind) → spills k (end_of (region_at now i r)) ≡ true → HasToStore (load_of_job k)
+          by : (k : JobKind) → spills k (end_of (region_in_map now i r)) ≡ true → HasToStore (load_of_job k)
           by Compact bad = absurd (true≢false (sym bad))
           by Spill good = tt
       write_caused (fault.Read k) same lacks = absurd lacks.out
@@ -257,17 +257,17 @@ module _ {S : Type 0} {kind : StoreKind S} (laws : KindLaws kind) (old new : Dev
       pub plan_by : HasCause kind (between old new) old.settings ⊥ (AreBased before) full (load_of_job jk) a
       plan_by = by fails
         where
-          by : IsPlanFault kind old new (job_target i r jk) (region_at now i r) why
+          by : IsPlanFault kind old new (job_target i r jk) (region_in_map now i r) why
               → HasCause kind (between old new) old.settings ⊥ (AreBased before) full (load_of_job jk) a
           by (inl memory) = absurd (memory_none why a is memory)
           by (inr (inl lacks)) = cause_more kind (between old new) old.settings (AreBased before) full (load_of_job jk) a
-              (region_caused kind old new lent (AreBased before) full O why a is (region_at now i r) any_byte
+              (region_caused kind old new lent (AreBased before) full O why a is (region_in_map now i r) any_byte
               (region_in (inside_of kind old) any_slice inside) (λ Q h. region_in any_byte Q h)
               (λ h. region_in (has_copies old.settings.replicas) O (copies h)) lacks.cause)
           by (inr (inr lacks)) = write_caused why is lacks
 
     -- the stores kept their lengths, unless the fault is one of writing
-    left : (k : JobKind) → jk ≡ k → (w : Fault) → fault_answer w ≡ Some a → IsPlanFault kind old new (job_target i r jk) (region_at now i r) w
+    left : (k : JobKind) → jk ≡ k → (w : Fault) → fault_answer w ≡ Some a → IsPlanFault kind old new (job_target i r jk) (region_in_map now i r) w
         → AddsBytes kind (between old new) old.settings (load_of_job k) a
     left k same w e (inl memory) = absurd (memory_none w a e memory)
     left k same w e (inr (inl lacks)) = all_added k a lacks.reads
@@ -300,8 +300,9 @@ module _ {S : Type 0} {kind : StoreKind S} (laws : KindLaws kind) (old new : Dev
     }
 
   -- ---- whatever comes of it, only the file to which the list is to go may have grown
-  pub plan_grows : (i : InodeId) → LeadsTo now p i → SparesStores kind old new (job_target i r jk) (region_at now i r) → GrowsOnly kind (between old new) asked
-  plan_grows i leads spares = elim (cases_Bool (spills jk (end_of (region_at now i r)))) [
+  pub plan_grows : (i : InodeId) → LeadsTo now p i → SparesStores kind old new (job_target i r jk) (region_in_map now i r)
+      → GrowsOnly kind (between old new) asked
+  plan_grows i leads spares = elim (cases_Bool (spills jk (end_of (region_in_map now i r)))) [
     | inl some ↦ inr (place_in old i (r * old.settings.region), (old, new, lent_to old new ring, (i, leads, refl)), spares.others)
     | inr none ↦ inl (spares.lengths none)
   ]

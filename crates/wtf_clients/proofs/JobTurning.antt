@@ -15,7 +15,7 @@ use Rattle.wtf_values.specs.declared.region.RegionValue.{RegionValue}
 use Rattle.wtf_compact.specs.declared.target.Target.{Target}
 use Rattle.wtf_compact.specs.Planned.{HasForm, spills}
 use Rattle.wtf_compact.specs.Jobs.{JobView, target_region}
-use Rattle.wtf_compact.specs.Putting.{IsPut}
+use Rattle.wtf_compact.specs.Putting.{IsJobPut}
 use Rattle.wtf_compact.proofs.PutLaws.{put_bytes}
 use Rattle.wtf_clients.specs.Views.{TablesView, of_client, of_label, metadata_now}
 use Rattle.wtf_clients.specs.Sounds.{planned, AreSound}
@@ -64,7 +64,7 @@ module _ (old new : TablesView) (j : ℕ) (sound : AreSound old) where
 
   -- one is put in place, or is stale
   module _ (x : JobView) (there : of_label old.beside.jobs j ≡ Some x) (a : Answer) (did : Puts old new j x a) where
-    put_later : (b : Answer) → IsPut x old.kv new.kv b → old.kv.number ≤ new.kv.number
+    put_later : (b : Answer) → IsJobPut x old.kv new.kv b → old.kv.number ≤ new.kv.number
     put_later (answer.Installed n) put = let next = put.next in let number = put.number in omega (arith, next, number)
     put_later (answer.Stale b n) put = let number = put.number in omega (arith, number)
     put_later b put = absurd put

@@ -14,14 +14,14 @@ use Rattle.wtf_clients.specs.Views.{Clients, Jobs, TablesView, of_client, of_lab
 use Rattle.wtf_clients.proofs.Lives.{live_cases}
 
 -- ---- where no transaction and no job is open, and only the number has an image, is seen by a scan and is watched, nothing else can be read
-none_owned : (n : ℕ) (clients : Clients) → ((c : ℕ) → of_client clients c ≡ None) → all_owned n clients ≡ 0
+pub none_owned : (n : ℕ) (clients : Clients) → ((c : ℕ) → of_client clients c ≡ None) → all_owned n clients ≡ 0
 none_owned n [] none = refl
 none_owned n ((k, x) ∷ es) none =
     let there : of_client ((k, x) ∷ es) k ≡ Some x = ap (λ b. cond b (Some x) (of_client es k)) (eq-eqb k k refl) in
     let bad : ◌≡◌ {A = Option TxnView} None (Some x) = sym (none k) ∙ there in
     absurd (cc)
 
-none_planned : (n : ℕ) (jobs : Jobs) → ((j : ℕ) → of_label jobs j ≡ None) → all_planned n jobs ≡ 0
+pub none_planned : (n : ℕ) (jobs : Jobs) → ((j : ℕ) → of_label jobs j ≡ None) → all_planned n jobs ≡ 0
 none_planned n [] none = refl
 none_planned n (o ∷ os) none =
     let whole = sum_by-cons (planned n) o os in

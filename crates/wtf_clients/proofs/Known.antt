@@ -22,7 +22,7 @@ use Rattle.wtf_region.specs.Devs.{GoesOn, stores, between, told_in, RemembersTru
 use Rattle.wtf_region.specs.Reads.{TellsFacts}
 use Rattle.wtf_replay.specs.Views.{TxnView}
 use Rattle.wtf_replay.specs.Insides.{lists_have}
-use Rattle.wtf_replay.specs.Sounds.{IsSound, TellsMap, IsAwayTxn}
+use Rattle.wtf_replay.specs.Sounds.{LogStands, TellsMap, IsAwayTxn}
 use Rattle.wtf_replay.specs.Verbs.{turn, StartsSound, StartsNow}
 use Rattle.wtf_replay.specs.Effects.{Scope, scope, Redoes}
 use Rattle.wtf_replay.specs.Installs.{IsInstall}
@@ -30,7 +30,7 @@ use Rattle.wtf_replay.proofs.EffectLaws.{redone_later}
 use Rattle.wtf_clients.specs.Asked.{IsLent, lent_by}
 use Rattle.wtf_clients.specs.Seeing.{seeing}
 use Rattle.wtf_clients.specs.Views.{TablesView, of_client, metadata_now}
-use Rattle.wtf_clients.specs.Turns.{AreTrue, Reads}
+use Rattle.wtf_clients.specs.Turns.{AreTrue, ReadsLists}
 use Rattle.wtf_clients.proofs.Lives.{now_bytes}
 
 module _ {S : Type 0} (kind : StoreKind S) (dev : Dev S) (all : TellsAll kind (stores dev)) (tables : TablesView)
@@ -53,7 +53,7 @@ module _ {S : Type 0} (kind : StoreKind S) (dev : Dev S) (all : TellsAll kind (s
   tells_map w map away = record { all = all; map = map; cache = kept.cache; away = away }
 
   module _ (new : Dev S) (left : Store Key Value) (c : ℕ) (x y : TxnView) (ops : List (Op (List ℕ))) (there : of_client tables.clients c ≡ Some x)
-      (base : TellsSo (metadata_at tables.kv x.at.base)) (sound : IsSound size tables.kv told x ops) where
+      (base : TellsSo (metadata_at tables.kv x.at.base)) (sound : LogStands size tables.kv told x ops) where
     away : IsAwayTxn kind dev kept.ranges tables.kv x
     away = kept.away.each c x there
 
@@ -75,7 +75,7 @@ lent_to old new ring = record { span_is = refl; settings_are = refl; lists_are =
 
 module _ {S : Type 0} (kind : StoreKind S) (old new : Dev S) (goes : GoesOn kind old new []) where
   abbrev known : Scope
-  known = Reads (seeing kind (between old new) (lent_by old new))
+  known = ReadsLists (seeing kind (between old new) (lent_by old new))
 
   pub knows : (facts : List ListFact) → TellsFacts kind old new facts → known.known facts
   knows facts h = λ ranges cache tell apart. subst (λ (st : Settings). TellLists (lists_in st.region (told_in kind new)) facts) goes.settings

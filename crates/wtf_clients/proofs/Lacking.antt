@@ -39,7 +39,7 @@ no_lists P [] = tt
 no_lists P (f ∷ fs) = (λ is. absurd (false≢true is), no_lists P fs)
 
 -- and each byte passes the test that every byte does
-any_entries : (es : List Entry) → All (EntryBytes any_byte) es
+pub any_entries : (es : List Entry) → All (EntryBytes any_byte) es
 any_entries [] = All-nil (EntryBytes any_byte)
 any_entries (e ∷ es) = All-cons (EntryBytes any_byte) e es (λ i below. refl) (any_entries es)
 

@@ -12,7 +12,7 @@ use Rattle.wtf_region.specs.Cached.{Remembered}
 use Rattle.wtf_region.specs.Devs.{remembered, between}
 use Rattle.wtf_region.specs.Showing.{OnlyRead}
 use Rattle.wtf_replay.specs.Views.{TxnView}
-use Rattle.wtf_clients.specs.Asked.{lending, lent_by, asked_of}
+use Rattle.wtf_clients.specs.Asked.{lending, lent_by, line_asked}
 use Rattle.wtf_clients.specs.Leaving.{MakesNoCall, ReadsNoList, SyncsNone, GrowsOnly, LeavesAlone}
 use Rattle.wtf_clients.specs.Views.{TablesView, of_client}
 
@@ -39,7 +39,7 @@ save_leaves kind down old new settings lists tables left lengths = record { down
 module _ {S : Type 0} (kind : StoreKind S) (dev new : Dev S) (tables : TablesView) (e : Event) where
   -- one that was lent devices
   pub leaves_by : IsLeftDown (between dev new) → SameSyncs kind (between dev new).before (between dev new).after
-      → GrowsOnly kind (between dev new) (asked_of kind (between dev new) (lent_by dev new) tables e)
+      → GrowsOnly kind (between dev new) (line_asked kind (between dev new) (lent_by dev new) tables e)
       → (ReadsNoList dev.settings.region tables e → remembered new ≡ remembered dev)
       → LeavesAlone kind (between dev new) (lent_by dev new) tables e
   leaves_by down syncs files lists = record { down = down; syncs = syncs_none kind (between dev new) e syncs; files = files; lists = lists }

@@ -15,7 +15,7 @@ use Rattle.wtf_region.specs.Inside.{is_inside}
 use Rattle.wtf_region.proofs.ShowLaws.{reads_nothing}
 use Rattle.wtf_region.proofs.Spans.{goes_nowhere}
 use Rattle.wtf_replay.specs.Causes.{fault_answer}
-use Rattle.wtf_clients.specs.Asked.{Asked, asked_of, lent_by}
+use Rattle.wtf_clients.specs.Asked.{Asked, line_asked, lent_by}
 use Rattle.wtf_clients.specs.Leaving.{LeavesAlone}
 use Rattle.wtf_clients.specs.Lines.{Line, line, through, lent_in, TurnOf, LineOf}
 use Rattle.wtf_clients.specs.Named.{TablesBytes, any_byte, no_slice, has_copies}
@@ -66,7 +66,7 @@ module _ {S : Type 0} {kind : StoreKind S} (laws : KindLaws kind) (dev : Dev S) 
 
     module _ (sound : AreSound old) (inside : TablesBytes (is_inside kind (stores dev) dev.settings) any_slice old) (e : Event) (w : Word) where
       abbrev asked : Asked
-      asked = asked_of kind (between dev dev) (lent_by dev dev) old e
+      asked = line_asked kind (between dev dev) (lent_by dev dev) old e
 
       -- one that is refused leaves all
       pub refused_serves : ServesLine kind (between dev dev) (lent_by dev dev) old after e (answer.Refused w)

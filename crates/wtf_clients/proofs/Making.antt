@@ -29,7 +29,7 @@ use Rattle.wtf_steps.specs.Faults.{MayStandFor}
 use Rattle.wtf_replay.specs.Views.{TxnView, begun, hand_of}
 use Rattle.wtf_replay.specs.Refusals.{call_refusal, try_refusal, step_refusal, unmade}
 use Rattle.wtf_replay.specs.Fits.{IsFit}
-use Rattle.wtf_replay.specs.Sounds.{IsSound, caller_at}
+use Rattle.wtf_replay.specs.Sounds.{LogStands, caller_at}
 use Rattle.wtf_replay.specs.Causes.{fault_answer, MayFaultAt, MayEndFault}
 use Rattle.wtf_replay.specs.Tried.{IsAttempted, KeepsMaps, KeepsPins, commit_from}
 use Rattle.wtf_replay.specs.Installs.{IsInstall}
@@ -40,7 +40,7 @@ use Rattle.wtf_clients.specs.Views.{Clients, TablesView, of_client, metadata_now
 use Rattle.wtf_clients.specs.Sounds.{owned, IsOpen, AreSound, Sets}
 use Rattle.wtf_clients.specs.Asked.{lent_by}
 use Rattle.wtf_clients.specs.Seeing.{Seeing, seeing}
-use Rattle.wtf_clients.specs.Turns.{Refuses, Begins, Ends, Tries, TryTurn, Stays, Tells, Reads, Calls, CallFails, Steps, Finals, ClientTurn}
+use Rattle.wtf_clients.specs.Turns.{Refuses, Begins, Ends, Tries, TryTurn, TablesStay, ListsAreTold, ReadsLists, Calls, CallFails, StepTurn, Finals, ClientTurn}
 use Rattle.wtf_clients.proofs.Lists.{sets_added, sets_same, sets_then}
 use Rattle.wtf_clients.proofs.Frames.{sound_turned}
 use Rattle.wtf_clients.proofs.Known.{lent_to, knows, knows_redone, knows_install, starts_sound, starts_now}
@@ -136,7 +136,7 @@ pub begins : (old : TablesView) (kv : Store Key Value) (mid clients : Clients) (
     → number ≡ old.kv.number → mid ≡ old.clients → (of_client mid c ≡ None → clients ≡ mid ++ (c, x) ∷ [])
     → ((q : ℕ) → of_client clients q ≡ cond (nat_eq c q) (Some x) (of_client mid q)) → x ≡ begun old.next_tx old.kv.number
     → kv ≡ record old.kv { pins = old.kv.pins ++ old.kv.number ∷ [] } → IsPinnedOnceMore old.kv.number old.kv kv → IsFit kv x
-    → ((size : ℕ) (told : Told) → IsSound size kv told x [])
+    → ((size : ℕ) (told : Told) → LogStands size kv told x [])
     → Begins old (record { kv = kv; next_tx = old.next_tx + 1; clients = clients; beside = old.beside }) c (answer.Begun number)
 begins old kv mid clients c number x none is_number is_mid last seen is_x is_kv pinned fit sound =
     let none_mid : of_client mid c ≡ None = ap (λ l. of_client l c) is_mid ∙ none in
@@ -149,7 +149,7 @@ begins old kv mid clients c number x none is_number is_mid last seen is_x is_kv 
       next_tx = refl;
       beside = refl;
       fit = subst (λ q. IsFit kv q) is_x fit;
-      sound = λ size told. subst (λ q. IsSound size kv told q []) is_x (sound size told);
+      sound = λ size told. subst (λ q. LogStands size kv told q []) is_x (sound size told);
     }
 
 -- a fault that may stand for an answer is allowed in its place
@@ -224,7 +224,7 @@ module _ {S : Type 0} (kind : StoreKind S) (dev new : Dev S) (ring : IsRing dev.
   abbrev now_set : TablesView
   now_set = record { kv = old.kv; next_tx = old.next_tx; clients = clients; beside = old.beside }
 
-  same_now : y ≡ x → Stays old now_set c
+  same_now : y ≡ x → TablesStay old now_set c
   same_now same = same_stays old now_set c x y there sets same refl (λ n le. refl) (λ q. refl) (λ n. refl) refl refl
 
   -- ---- a call
@@ -265,9 +265,9 @@ module _ {S : Type 0} (kind : StoreKind S) (dev new : Dev S) (ring : IsRing dev.
 
   -- ---- a step
   goes_by_step : (b : Answer) → y.ended ≡ false → IsStepped x y b → ActsAgain (verb_of old.kv) b → GoesOn kind dev new [] → IsFit old.kv y
-      → (Tells z old (metadata_at old.kv x.at.base) → (ops : List (Op (List ℕ))) → IsSound z.size old.kv z.told x ops
+      → (ListsAreTold z old (metadata_at old.kv x.at.base) → (ops : List (Op (List ℕ))) → LogStands z.size old.kv z.told x ops
       → IsTrueStep z.size (z.told, z.later) old.kv (x, y) ops b)
-      → Steps z old now_set c x b
+      → StepTurn z old now_set c x b
   goes_by_step (answer.Replayed i) still h acts goes fit m = record {
     later_one = y;
     keeps = record { clients = sets; kv = refl; next_tx = refl; beside = refl };
@@ -281,12 +281,12 @@ module _ {S : Type 0} (kind : StoreKind S) (dev new : Dev S) (ring : IsRing dev.
   goes_by_step b still h acts goes fit m = absurd h
 
   -- what a step means
-  step_means : (a : Answer) → StepOf (verb_of old.kv) (Ok a) → step_refusal x ≡ None → Tells z old (metadata_at old.kv x.at.base)
-      → (ops : List (Op (List ℕ))) → IsSound z.size old.kv z.told x ops → IsTrueStep z.size (z.told, z.later) old.kv (x, y) ops a
+  step_means : (a : Answer) → StepOf (verb_of old.kv) (Ok a) → step_refusal x ≡ None → ListsAreTold z old (metadata_at old.kv x.at.base)
+      → (ops : List (Op (List ℕ))) → LogStands z.size old.kv z.told x ops → IsTrueStep z.size (z.told, z.later) old.kv (x, y) ops a
   step_means a did free tells ops run = did.meaning free ops (starts_sound kind dev tells.0 old tells.1 new old.kv c x y ops there tells.2 run)
 
   steps_by : (a : Answer) → StepOf (verb_of old.kv) (Ok a) → y.ended ≡ false → (r : Option Word) → step_refusal x ≡ r
-      → MatchOption r (Steps z old now_set c x a) (λ w. Refuses old now_set c w a)
+      → MatchOption r (StepTurn z old now_set c x a) (λ w. Refuses old now_set c w a)
   steps_by a did still None is = goes_by_step a still (did.stepped is) (did.acts is) did.dev did.fit (step_means a did is)
   steps_by a did still (Some w) is =
       let all = refusal_of Fault x y dev new (step_refusal x) w a is did.refused in
@@ -302,9 +302,9 @@ module _ {S : Type 0} (kind : StoreKind S) (dev new : Dev S) (ring : IsRing dev.
       (by a is (λ ops run t st. step_left dev.settings.servers _ x.replayed why a is (did.due ops run t st))))
     where
       by : (b : Answer) → fault_answer why ≡ Some b
-          → ((ops : List (Op (List ℕ))) → IsSound z.size old.kv z.told x ops → (t : Tree) → Stands z.size z.told x.tx 0 (metadata_at old.kv x.at.base) t
+          → ((ops : List (Op (List ℕ))) → LogStands z.size old.kv z.told x ops → (t : Tree) → Stands z.size z.told x.tx 0 (metadata_at old.kv x.at.base) t
           → IsDone (slice_get (answers_of (cap_for (caller_at z.size x.tx 0)) t ops) x.replayed) × IsReadFault z.servers b)
-          → Steps z old now_set c x b
+          → StepTurn z old now_set c x b
       by (answer.Replayed i) e f = absurd (fault_is why (answer.Replayed i) e)
       by (Aborted' i box b) e f = absurd (fault_is why (Aborted' i box b) e)
       by b e f = record { fails = record { why = why; answer = e; stays = same_now did.err }; may = f }
@@ -322,9 +322,9 @@ module _ {S : Type 0} (kind : StoreKind S) (dev new : Dev S) (ring : IsRing dev.
 
     -- by a step
     ends_by_step : (b : Answer) → kv ≡ old.kv → x.ended ≡ false → y.ended ≡ true → IsStepped x y b
-        → (Tells z old (metadata_at old.kv x.at.base) → (ops : List (Op (List ℕ))) → IsSound z.size old.kv z.told x ops
+        → (ListsAreTold z old (metadata_at old.kv x.at.base) → (ops : List (Op (List ℕ))) → LogStands z.size old.kv z.told x ops
         → IsTrueStep z.size (z.told, z.later) old.kv (x, y) ops b)
-        → Steps z old after c x b
+        → StepTurn z old after c x b
     ends_by_step (answer.Replayed i) same going over h m = absurd (true≢false (sym over ∙ ap (λ (q : TxnView). q.ended) h.is ∙ going))
     ends_by_step (Aborted' i box b) same going over h m = record {
       index = h.index;
@@ -335,7 +335,7 @@ module _ {S : Type 0} (kind : StoreKind S) (dev new : Dev S) (ring : IsRing dev.
     ends_by_step b same going over h m = absurd h
 
     steps_over : (a : Answer) → kv ≡ old.kv → x.ended ≡ false → StepOf (verb_of old.kv) (Ok a) → y.ended ≡ true → (r : Option Word) → step_refusal x ≡ r
-        → MatchOption r (Steps z old after c x a) (λ w. Refuses old after c w a)
+        → MatchOption r (StepTurn z old after c x a) (λ w. Refuses old after c w a)
     steps_over a same going did over None is = ends_by_step a same going over (did.stepped is) (step_means a did is)
     steps_over a same going did over (Some w) is =
         let all = refusal_of Fault x y dev new (step_refusal x) w a is did.refused in
@@ -357,9 +357,9 @@ module _ {S : Type 0} (kind : StoreKind S) (dev new : Dev S) (ring : IsRing dev.
     pub commit_gone : (a : Answer) → CommitOf (verb_of kv) (Ok a) → Ends old after kv c x
     commit_gone a did = gone did.over.base did.maps did.pins
 
-    commit_by : (a : Answer) → Ends old after kv c x → IsEnded old.kv kv a → IsInstall (Reads z) old.kv kv (commit_from old.kv x) a
-        → (Tells z old (metadata_at old.kv x.at.base) → Tells z old (metadata_now old.kv)
-        → (ops : List (Op (List ℕ))) → IsSound z.size old.kv z.told x ops → IsTrueEnd z.size (z.told, z.later) old.kv kv x ops a) → Finals z old after c x a
+    commit_by : (a : Answer) → Ends old after kv c x → IsEnded old.kv kv a → IsInstall (ReadsLists z) old.kv kv (commit_from old.kv x) a
+        → (ListsAreTold z old (metadata_at old.kv x.at.base) → ListsAreTold z old (metadata_now old.kv)
+        → (ops : List (Op (List ℕ))) → LogStands z.size old.kv z.told x ops → IsTrueEnd z.size (z.told, z.later) old.kv kv x ops a) → Finals z old after c x a
     commit_by (answer.Committed n) over h i m = record { mid = kv; next = h.0; number = h.1; installs = i; ends = over; final = m }
     commit_by (Aborted' k box b) over h i m = record { mid = kv; number = h; versions = i; ends = over; deviates = m }
     commit_by b over h i m = absurd h
@@ -375,7 +375,7 @@ module _ {S : Type 0} (kind : StoreKind S) (dev new : Dev S) (ring : IsRing dev.
     abbrev after_commit : TablesView
     after_commit = record { kv = kv; next_tx = old.next_tx; clients = clients; beside = old.beside }
 
-    pub commit_stays : Stays old after_commit c
+    pub commit_stays : TablesStay old after_commit c
     commit_stays = same_stays old after_commit c x y there sets did.err did.err_store.0 did.maps did.err_store.1 did.pins refl refl
 
     pub commit_failed : (a : Answer) → fault_answer why ≡ Some a → ClientTurn z old after_commit c verb.Commit a
@@ -383,8 +383,8 @@ module _ {S : Type 0} (kind : StoreKind S) (dev new : Dev S) (ring : IsRing dev.
         (did.due ops (starts_now kind dev tells.0 old tells.1 new kv c x y ops there tells.2 run now.2) t st)))
       where
         by : (b : Answer) → fault_answer why ≡ Some b
-            → (Tells z old (metadata_at old.kv x.at.base) → Tells z old (metadata_now old.kv) → (ops : List (Op (List ℕ)))
-            → IsSound z.size old.kv z.told x ops → (t : Tree) → Stands z.size z.told x.tx 0 (metadata_now old.kv) t → IsReadFault z.servers b)
+            → (ListsAreTold z old (metadata_at old.kv x.at.base) → ListsAreTold z old (metadata_now old.kv) → (ops : List (Op (List ℕ)))
+            → LogStands z.size old.kv z.told x ops → (t : Tree) → Stands z.size z.told x.tx 0 (metadata_now old.kv) t → IsReadFault z.servers b)
             → Finals z old after_commit c x b
         by (answer.Committed n) e f = absurd (fault_is why (answer.Committed n) e)
         by (Aborted' i box b) e f = absurd (fault_is why (Aborted' i box b) e)
@@ -395,14 +395,14 @@ module _ (old : TablesView) (kv : Store Key Value) (mid : Clients) (c : ℕ) (x 
     (there : of_client old.clients c ≡ Some x) (sets : Sets c (Some y) old.clients mid)
     (stopped : IfSome (try_refusal x) (λ w. (answered OutOfMemory a (answer.Refused w)) × (y ≡ x) × (kv ≡ old.kv)))
     (tried : try_refusal x ≡ None → IsAttempted old.kv kv x y a)
-    (meaning : try_refusal x ≡ None → (size : ℕ) (told : Told) (ops : List (Op (List ℕ))) → IsSound size old.kv told x ops
+    (meaning : try_refusal x ≡ None → (size : ℕ) (told : Told) (ops : List (Op (List ℕ))) → LogStands size old.kv told x ops
     → IsTrueAttempt size told old.kv kv (x, y) ops a)
     (maps : KeepsMaps old.kv kv) (fit : IsFit kv y) where
   abbrev now_tried : TablesView
   now_tried = record { kv = kv; next_tx = old.next_tx; clients = mid; beside = old.beside }
 
   goes_by : (b : Answer) → y.ended ≡ false → IsAttempted old.kv kv x y b
-      → ((size : ℕ) (told : Told) (ops : List (Op (List ℕ))) → IsSound size old.kv told x ops → IsTrueAttempt size told old.kv kv (x, y) ops b)
+      → ((size : ℕ) (told : Told) (ops : List (Op (List ℕ))) → LogStands size old.kv told x ops → IsTrueAttempt size told old.kv kv (x, y) ops b)
       → Tries old now_tried c x b
   goes_by (answer.Committed n) still h m = absurd (true≢false (sym (ap (λ (z : TxnView). z.ended) h.is) ∙ still))
   goes_by (answer.Retry b n) still h m = record {
@@ -429,7 +429,7 @@ module _ (old : TablesView) (kv : Store Key Value) (mid : Clients) (c : ℕ) (x 
   module _ (new : TablesView) (taken : Sets c None mid new.clients) (next : new.next_tx ≡ old.next_tx) (beside : new.beside ≡ old.beside)
       (is_kv : new.kv ≡ record kv { pins = remove_key (nat_eq y.at.base) kv.pins }) (unpinned : IsPinnedOnceMore y.at.base new.kv kv) where
     ends_by : (b : Answer) → y.ended ≡ true → IsAttempted old.kv kv x y b
-        → ((size : ℕ) (told : Told) (ops : List (Op (List ℕ))) → IsSound size old.kv told x ops → IsTrueAttempt size told old.kv kv (x, y) ops b)
+        → ((size : ℕ) (told : Told) (ops : List (Op (List ℕ))) → LogStands size old.kv told x ops → IsTrueAttempt size told old.kv kv (x, y) ops b)
         → Tries old new c x b
     ends_by (answer.Committed n) over h m = record {
       mid = kv;

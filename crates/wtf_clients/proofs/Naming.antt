@@ -21,7 +21,7 @@ use Rattle.wtf_replay.specs.Tried.{KeepsMaps}
 use Rattle.wtf_clients.specs.Views.{BesideView, TablesView, of_client, of_label, metadata_now}
 use Rattle.wtf_clients.specs.Sounds.{AreSound, Sets}
 use Rattle.wtf_clients.specs.Named.{TablesBytes}
-use Rattle.wtf_clients.specs.Turns.{Keeps, Ends, Stays}
+use Rattle.wtf_clients.specs.Turns.{SetsClientAlone, Ends, TablesStay}
 use Rattle.wtf_clients.proofs.Lives.{live_cases, live_upto, now_bytes, Reaches, same_reaches, ended_reaches}
 use Rattle.wtf_clients.proofs.Pins.{number_cases}
 
@@ -62,14 +62,15 @@ module _ (P : List Place → Bool) (Q : Slice → Bool) where
   pub now_along : (old new : Store Key Value) → new.number ≡ old.number → KeepsMaps old new → MapBytes P Q (metadata_now old) → MapBytes P Q (metadata_now new)
   now_along old new number maps h = subst (MapBytes P Q) (sym (ap (metadata_at new) number ∙ maps old.number (omega arith))) h
 
-  pub stays_bytes : (old new : TablesView) (c : ℕ) → AreSound old → Stays old new c → TablesBytes P Q old → TablesBytes P Q new
+  pub stays_bytes : (old new : TablesView) (c : ℕ) → AreSound old → TablesStay old new c → TablesBytes P Q old → TablesBytes P Q new
   stays_bytes old new c sound st h =
       bytes_set old new c (of_client old.clients c) sound st.clients st.maps (same_reaches old.kv new.kv st.pins) h
       (now_along old.kv new.kv st.number st.maps (now_bytes P Q old h))
       (λ x is. txn_along old.kv new.kv x (st.maps x.at.base (sound.each c x is).based) (h.each c x is)) st.beside
 
   -- a transaction goes on at its base
-  pub keeps_bytes : (old new : TablesView) (c : ℕ) (y : TxnView) → AreSound old → Keeps old new c (Some y) → TxnBytes P Q old.kv y → TablesBytes P Q old →
+  pub keeps_bytes : (old new : TablesView) (c : ℕ) (y : TxnView) → AreSound old → SetsClientAlone old new c (Some y) → TxnBytes P Q old.kv y
+      → TablesBytes P Q old →
       TablesBytes P Q new
   keeps_bytes old new c y sound keeps own h =
       let maps : KeepsMaps old.kv new.kv = λ n le. ap (λ (s : Store Key Value). metadata_at s n) keeps.kv in

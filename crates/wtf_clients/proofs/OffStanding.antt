@@ -35,7 +35,7 @@ use Rattle.wtf_meta.proofs.Nothing.{nothing_kept}
 use Rattle.wtf_meta.proofs.Telling.{told_byte}
 use Rattle.wtf_rw.specs.Stored.{SliceBytes as OwnBytes}
 use Rattle.wtf_replay.specs.Insides.{LogBytes, TxnBytes, lists_have}
-use Rattle.wtf_replay.specs.Sounds.{IsSound, tells_slice}
+use Rattle.wtf_replay.specs.Sounds.{LogStands, tells_slice}
 use Rattle.wtf_replay.specs.Views.{TxnView}
 use Rattle.wtf_compact.specs.Jobs.{JobView, target_region}
 use Rattle.wtf_compact.specs.Planned.{KeepsRegion}
@@ -65,13 +65,18 @@ module _ (set : Place → Bool) (told later : Told) (on : TellsWhere set told la
   node_where w None None here h = h
   node_where w None (Some n) here h = absurd h
   node_where w (Some (value.Node Folder)) (Some Dir) here h = h
-  node_where w (Some (value.Node (FileNode i))) (Some (File bytes)) here h =
+  node_where w (Some (value.Node (FileNode i))) (Some (File paths bytes)) here h =
       record {
-        has = h.has;
-        file = h.file;
-        bytes_are = has_bytes_where set told later on b (file_of i w) bytes (file_bytes (are_in set) (lists_have b told (are_in set)) i w here) h.bytes_are;
+        body = record {
+          has = h.body.has;
+          file = h.body.file;
+          bytes_are = has_bytes_where set told later on b (file_of i w) bytes (file_bytes (are_in set) (lists_have b told (are_in set)) i w here)
+              h.body.bytes_are;
+        };
+        lead = h.lead;
+        all = h.all;
       }
-  node_where w (Some (value.Node Folder)) (Some (File bytes)) here h = absurd h
+  node_where w (Some (value.Node Folder)) (Some (File paths bytes)) here h = absurd h
   node_where w (Some (value.Node (FileNode i))) (Some Dir) here h = absurd h
   node_where w (Some (value.Node Folder)) None here h = absurd h
   node_where w (Some (value.Node (FileNode i))) None here h = absurd h
@@ -118,8 +123,8 @@ module _ (set : Place → Bool) (told later : Told) (on : TellsWhere set told la
   lists_here P (f ∷ fs) tell = ((λ has. entries_from P f.list (ap (list_has P) (sym tell.0) ∙ has)), lists_here P fs tell.1)
 
   -- a transaction whose map at the base, and whose log, name only such bytes stands for the calls that it stood for
-  pub sound_where : (kv : Store Key Value) (x : TxnView) (ops : List (Op (List ℕ))) → IsSound b kv told x ops → IsHere (metadata_at kv x.at.base)
-      → LogBytes (are_in set) x.log → IsSound b kv later x ops
+  pub sound_where : (kv : Store Key Value) (x : TxnView) (ops : List (Op (List ℕ))) → LogStands b kv told x ops → IsHere (metadata_at kv x.at.base)
+      → LogBytes (are_in set) x.log → LogStands b kv later x ops
   sound_where kv x ops sound base log =
       let stored : PiecesBytes (are_in set) sound.stored = sound.kept (are_in set) log in
       let names = sound.run.names (are_in set) (lists_have b told (are_in set)) refl base (nothing_kept (are_in set)) stored

@@ -23,14 +23,14 @@ use Rattle.wtf_region.specs.Showing.{OnlyRead}
 use Rattle.wtf_steps.proofs.FaultWays.{IsOfServers, region_fault_known}
 use Rattle.wtf_replay.specs.Causes.{fault_answer}
 use Rattle.wtf_replay.specs.Insides.{lists_have}
-use Rattle.wtf_gc.specs.Reading.{LacksBase}
+use Rattle.wtf_gc.specs.Reading.{PartLacksBase}
 use Rattle.wtf_gc.specs.Scans.{IsPrunedFrom, IsPieceFault, AreHeld, next_parts}
 use Rattle.wtf_gc.specs.Views.{RunView}
 use Rattle.wtf_gc.proofs.Living.{kept_region}
 use Rattle.wtf_clients.specs.Views.{BesideView, TablesView}
 use Rattle.wtf_clients.specs.Sounds.{AreSound, all_owned, all_kept, all_seen}
 use Rattle.wtf_clients.specs.Named.{TablesBytes, any_byte, no_slice, has_copies}
-use Rattle.wtf_clients.specs.Asked.{Asked, asked_of, lent_by}
+use Rattle.wtf_clients.specs.Asked.{Asked, line_asked, lent_by}
 use Rattle.wtf_clients.specs.Outcomes.{no_load, HasCause}
 use Rattle.wtf_clients.specs.Serves.{NamesTables, IsPlain, AreBased, AreFull, ServesLine}
 use Rattle.wtf_clients.specs.ScanTurns.{IsPruned, DoesTurn}
@@ -83,12 +83,13 @@ module _ {S : Type 0} {kind : StoreKind S} (laws : KindLaws kind) (old new : Dev
     (inside : TablesBytes (is_inside kind (stores old) old.settings) any_slice before) (k : ℕ) (kept : Store Key Value) (pruned : IsPrunedFrom before.kv kept)
     (why : Fault) (a : Answer) (is : fault_answer why ≡ Some a) where
   -- the region whose base was not read names no more than the tables do
-  region_in : (r : RunView) → (P : List Place → Bool) (Q : Slice → Bool) → TablesBytes P Q before → (v : LacksBase kind old new kept (next_parts r.left k) why)
+  region_in : (r : RunView) → (P : List Place → Bool) (Q : Slice → Bool) → TablesBytes P Q before
+      → (v : PartLacksBase kind old new kept (next_parts r.left k) why)
       → MaybeBytes P Q (Some v.region)
   region_in r P Q h v = kept_region P Q before.kv kept pruned h.live (next_parts r.left k) v.region v.there
 
   -- it lies inside the stores still
-  region_mid : (r : RunView) → (v : LacksBase kind old new kept (next_parts r.left k) why) → MaybeBytes (inside_of kind v.mid) any_slice (Some v.region)
+  region_mid : (r : RunView) → (v : PartLacksBase kind old new kept (next_parts r.left k) why) → MaybeBytes (inside_of kind v.mid) any_slice (Some v.region)
   region_mid r v =
       subst (λ (st : Settings). MaybeBytes (is_inside kind (stores v.mid) st) any_slice (Some v.region)) (sym v.goes.settings)
       (value_later laws v.goes.each old.settings lent.shelf (Some v.region) (region_in r (is_inside kind (stores old) old.settings) any_slice inside v))
@@ -132,7 +133,7 @@ module _ {S : Type 0} {kind : StoreKind S} (laws : KindLaws kind) (old new : Dev
 module _ {S : Type 0} {kind : StoreKind S} (laws : KindLaws kind) (old new : Dev S) (goes : GoesOn kind old new []) (lent : IsSoundDev kind old)
     (before : TablesView) (sound : AreSound before) (inside : TablesBytes (is_inside kind (stores old) old.settings) any_slice before) where
   abbrev asked : ℕ → Asked
-  asked k = asked_of kind (between old new) (lent_by old new) before (event.Piece k)
+  asked k = line_asked kind (between old new) (lent_by old new) before (event.Piece k)
 
   -- what was read was read, and what is named was named
   pub piece_serves : (k : ℕ) (after : TablesView) (a : Answer) → NamesTables before after → OnlyRead kind (between old new) → IsPlain a

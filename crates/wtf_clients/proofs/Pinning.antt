@@ -1,6 +1,6 @@
 -- The pins of the images, where one comes, goes, or is the only one that stays, and of what is watched.
-use Rattle.std.proofs.Common.{◌≡◌, ◌≤◌, ◌<◌, ℕ, ◌+◌, ◌-◌, cond, nat_eq, count_by, List, [], ◌∷◌, Some, ◌++◌, take, drop, get_or, suc, length, refl, sym, ap, ◌∙◌}
-use Rattle.std.proofs.Common.{arith}
+use Rattle.std.proofs.Common.{◌≡◌, ◌≤◌, ◌<◌, ℕ, ◌+◌, ◌-◌, cond, nat_eq, count_by, List, [], ◌∷◌, Some, ◌++◌, take, drop, get_or, suc, length, refl, sym, ap}
+use Rattle.std.proofs.Common.{◌∙◌, arith}
 use Rattle.std.specs.Prelude.{IsTrue}
 use Rattle.std.proofs.Math.Seq.{take-append_seam, take-suc}
 use Rattle.std.proofs.lemmas.Bool.{eq-eqb}

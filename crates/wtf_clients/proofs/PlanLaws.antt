@@ -27,7 +27,7 @@ use Rattle.wtf_meta.specs.Maps.{Map}
 use Rattle.wtf_meta.specs.NameEdits.{node_of}
 use Rattle.wtf_meta.specs.Trees.{LeadsTo, IsBody, Stands}
 use Rattle.wtf_index.specs.Checks.{stands_at}
-use Rattle.wtf_compact.specs.Jobs.{HasRegion, region_at}
+use Rattle.wtf_compact.specs.Jobs.{HasRegion, region_in_map}
 use Rattle.wtf_clients.specs.JobTurns.{plan_due}
 use Rattle.wtf_clients.specs.Planning.{has_region, refusal_at, plan_answer}
 use Rattle.wtf_clients.proofs.Dumping.{none_at, folder_at, file_at}
@@ -45,9 +45,9 @@ leads_at (Some (value.Region g)) i is = absurd (cc)
 module _ (size : ℕ) (w : Map) (p : List ℕ) (r : ℕ) where
   region_there : (i : InodeId) → LeadsTo w p i → has_region size w i r ≡ true → HasRegion size w p r
   region_there i leads is =
-      let last = and_parts (nat_le r (file_of i w).last) (nat_lt r MAX_REGIONS && nat_le (end_of (region_at w i r)) size) is in
-      let few = and_parts (nat_lt r MAX_REGIONS) (nat_le (end_of (region_at w i r)) size) last.1 in
-      record { inode = i; leads = leads; few = ltb-true r MAX_REGIONS few.0; size = leb-true (end_of (region_at w i r)) size few.1 }
+      let last = and_parts (nat_le r (file_of i w).last) (nat_lt r MAX_REGIONS && nat_le (end_of (region_in_map w i r)) size) is in
+      let few = and_parts (nat_lt r MAX_REGIONS) (nat_le (end_of (region_in_map w i r)) size) last.1 in
+      record { inode = i; leads = leads; few = ltb-true r MAX_REGIONS few.0; size = leb-true (end_of (region_in_map w i r)) size few.1 }
 
   asked_true : (b : Bool) → (if b then None else Some NoRegion) ≡ None → b ≡ true
   asked_true true is = refl
@@ -98,14 +98,14 @@ test_is b told w i r bytes some body =
     ap (nat_le r) (last_is b (file_of i w) bytes some body.file body.bytes_are.len) ∙ by (cases_Bool (nat_le r (file_of i w).last))
   where
     rest : Bool
-    rest = nat_lt r MAX_REGIONS && nat_le (end_of (region_at w i r)) b
+    rest = nat_lt r MAX_REGIONS && nat_le (end_of (region_in_map w i r)) b
 
     whole : nat_le r (file_of i w).last ≡ true → rest ≡ true
     whole is =
         let few = body.file.few in
         let le = leb-true r (file_of i w).last is in
         let lt : r < MAX_REGIONS = omega (arith, few, le) in
-        ap (λ k. k && nat_le (end_of (region_at w i r)) b) (lt-ltb r MAX_REGIONS lt) ∙ le-leb (end_of (region_at w i r)) b (body.file.ends r)
+        ap (λ k. k && nat_le (end_of (region_in_map w i r)) b) (lt-ltb r MAX_REGIONS lt) ∙ le-leb (end_of (region_in_map w i r)) b (body.file.ends r)
 
     by : (nat_le r (file_of i w).last ≡ true) ⊎ (nat_le r (file_of i w).last ≡ false) → nat_le r (file_of i w).last ≡ has_region b w i r
     by (inl is) = is ∙ sym (ap (λ k. k && rest) is ∙ whole is)
@@ -139,6 +139,6 @@ plan_is_due size told tx k w t p r some st = by (stands_at w p) refl
     by (Some Folder) is = ap (due_at size r) (folder_at size told w (w (Path p)) (get t p) (st.nodes p) is)
     by (Some (FileNode i)) is =
         let found = file_at size told w (w (Path p)) (get t p) i (st.nodes p) is in
-        ap (due_at size r) found.1
-        ∙ ap due_if (test_is size told w i r found.0 some found.2)
+        ap (due_at size r) found.there
+        ∙ ap due_if (test_is size told w i r found.bytes some found.body)
         ∙ if_due (has_region size w i r)

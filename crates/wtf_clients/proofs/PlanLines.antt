@@ -17,7 +17,7 @@ use Rattle.wtf_region.specs.declared.dev.Dev.{Dev}
 use Rattle.wtf_region.specs.Devs.{IsSoundDev, GoesOn, stores, told_in, inside_of, between}
 use Rattle.wtf_region.specs.Inside.{is_inside}
 use Rattle.wtf_replay.specs.Causes.{fault_answer}
-use Rattle.wtf_compact.specs.Jobs.{JobView, IsJobOf, job_target, region_at, target_region}
+use Rattle.wtf_compact.specs.Jobs.{JobView, IsJobOf, job_target, region_in_map, target_region}
 use Rattle.wtf_compact.specs.Planned.{IsPlanned, IsPlanFault, KeepsRegion, SparesStores, TellsRegion}
 use Rattle.wtf_clients.specs.Asked.{lent_by}
 use Rattle.wtf_clients.specs.JobTurns.{KeepsOthers, Plans}
@@ -41,7 +41,7 @@ module _ {S : Type 0} {kind : StoreKind S} (laws : KindLaws kind) (dev new : Dev
   e = event.Plan j jk p r
 
   -- the map gives no reason against it, so a list may be read
-  plan_leaves : (i : InodeId) → LeadsTo (metadata_now old.kv) p i → SparesStores kind dev new (job_target i r jk) (region_at (metadata_now old.kv) i r)
+  plan_leaves : (i : InodeId) → LeadsTo (metadata_now old.kv) p i → SparesStores kind dev new (job_target i r jk) (region_in_map (metadata_now old.kv) i r)
       → LeavesAlone kind (between dev new) (lent_by dev new) old e
   plan_leaves i leads spares =
       leaves_by kind dev new old e spares.down spares.syncs (plan_grows laws dev new goes lent old sound inside ring j jk p r i leads spares)
@@ -53,7 +53,7 @@ module _ {S : Type 0} {kind : StoreKind S} (laws : KindLaws kind) (dev new : Dev
       → ((ranges : List (ℕ × Range)) → TellsRegion kind dev ranges (target_region (metadata_now old.kv) x.target)
       → KeepsRegion new.settings.region (told_in kind new) (target_region (metadata_now old.kv) x.target) x.value)
       → MaybeBytes (inside_of kind new) any_slice x.value
-      → ((i : InodeId) → LeadsTo (metadata_now old.kv) p i → SparesStores kind dev new (job_target i r jk) (region_at (metadata_now old.kv) i r))
+      → ((i : InodeId) → LeadsTo (metadata_now old.kv) p i → SparesStores kind dev new (job_target i r jk) (region_in_map (metadata_now old.kv) i r))
       → LineOf (line kind dev new old after) e (Ok answer.Planned)
   plan_line after x keeps unmarked is_kv pinned base job did region own spares =
       let it : Plans old after j jk p r x = plans kind dev new ring old after j jk p r x none keeps unmarked is_kv pinned base job did in
@@ -67,8 +67,8 @@ module _ {S : Type 0} {kind : StoreKind S} (laws : KindLaws kind) (dev new : Dev
 
   -- one that failed, of the file to which the path leads
   pub plan_lost : (i : InodeId) → LeadsTo (metadata_now old.kv) p i → (why : Fault) (q : Result Answer OutOfMemory) → IfOk q (λ a. fault_answer why ≡ Some a)
-      → IsPlanFault kind dev new (job_target i r jk) (region_at (metadata_now old.kv) i r) why
-      → SparesStores kind dev new (job_target i r jk) (region_at (metadata_now old.kv) i r) → LineOf (line kind dev new old old) e q
+      → IsPlanFault kind dev new (job_target i r jk) (region_in_map (metadata_now old.kv) i r) why
+      → SparesStores kind dev new (job_target i r jk) (region_in_map (metadata_now old.kv) i r) → LineOf (line kind dev new old old) e q
   plan_lost i leads why q is fails spares = failed_line (line kind dev new old old) e why q is
       (λ a same. record {
         turn = plan_failed kind dev new ring old old j jk p r why a same none refl free

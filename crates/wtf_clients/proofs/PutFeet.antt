@@ -21,7 +21,7 @@ use Rattle.wtf_meta.specs.Trees.{LeadsTo, Own, Stands}
 use Rattle.wtf_meta.proofs.FeetFiles.{edits_are_of, paths_kept}
 use Rattle.wtf_meta.proofs.FeetLaws.{unfit-none}
 use Rattle.wtf_compact.specs.Jobs.{JobView, puts, job_edits}
-use Rattle.wtf_compact.specs.Putting.{IsPut, IsStale}
+use Rattle.wtf_compact.specs.Putting.{IsJobPut, IsStale}
 use Rattle.wtf_clients.specs.Views.{metadata_now}
 use Rattle.wtf_clients.specs.Touched.{above, SinceBase}
 use Rattle.wtf_clients.proofs.AboveLaws.{above-version}
@@ -44,30 +44,29 @@ module _ (i : InodeId) (r : ℕ) where
   pub put_own : (other : ℕ) (value : Option RegionValue) (w : Map) → Own other w (with (edits_of i (puts r value)) w)
   put_own other value w k mine none = inode_same value w k ∙ none
 
-  -- the region's key alone is written, of a file that one path leads to
+  -- the region's key alone is written
   put_written : (value : Option RegionValue) (w : Map) (W : List Item) → WrittenBy w W (Region i r) → EachWritten w W (edits_of i (puts r value))
   put_written None w W written = tt
   put_written (Some x) w W written = (written, tt)
 
--- the footprint of a put, which records nothing that others have
-pub put_feet : (other : ℕ) (w : Map) (x : JobView) → ((q : List ℕ) → LeadsTo w q x.target.inode → q ≡ x.path)
-    → Feet other w [] (job_edits x) [] (BodyOf x.path ∷ [])
-put_feet other w x one =
+-- the footprint of a put, which records nothing that others have, and changes the bytes at each path of its file
+pub put_feet : (other : ℕ) (w : Map) (x : JobView) (changed : List Item) → ((q : List ℕ) → LeadsTo w q x.target.inode → Has (BodyOf q) changed)
+    → Feet other w [] (job_edits x) [] changed
+put_feet other w x changed each =
     let same : (p : List ℕ) → with (job_edits x) w (Path p) ≡ w (Path p) = λ p.
     paths_kept x.target.inode (job_edits x) w p (edits_are_of x.target.inode (puts x.target.region x.value)) in
     record {
       read = tt;
       unfit = unfit-none (job_edits x) (ReadBy other w []) (put_fits x.target.inode x.target.region x.value);
-      written = put_written x.target.inode x.target.region x.value w (BodyOf x.path ∷ [])
-          (λ q to. subst (λ (p : List ℕ). Has (BodyOf p) (BodyOf x.path ∷ [])) (sym (one q to)) (is_among-head (BodyOf x.path) []));
+      written = put_written x.target.inode x.target.region x.value w changed each;
       comes = λ p i to. inl (sym (same p) ∙ to);
       stays = λ q i to. inl (same q ∙ to);
     }
 
 -- ---- what was touched, once a job is in place
 
-module _ (x : JobView) (old new : Store Key Value) (n : ℕ) (put : IsPut x old new (answer.Installed n)) (one : (q : List ℕ) →
-    LeadsTo (metadata_now old) q x.target.inode → q ≡ x.path) where
+module _ (x : JobView) (old new : Store Key Value) (n : ℕ) (put : IsJobPut x old new (answer.Installed n)) (changed : List Item)
+    (each : (q : List ℕ) → LeadsTo (metadata_now old) q x.target.inode → Has (BodyOf q) changed) where
   pub put_map : metadata_now new ≡ with (job_edits x) (metadata_now old)
   put_map = ap (metadata_at new) put.number ∙ put.map
 
@@ -78,15 +77,15 @@ module _ (x : JobView) (old new : Store Key Value) (n : ℕ) (put : IsPut x old 
     put_regions = subst HasNone put_map is.regions
 
     pub put_touched : (base : ℕ) (items : List Item) → metadata_at new base ≡ metadata_at old base → TouchedSince old base items
-        → TouchedSince new base (items ++ BodyOf x.path ∷ [])
+        → TouchedSince new base (items ++ changed)
     put_touched base items at since =
-        touched_installed (suc tx) old new [] (job_edits x) n [] (BodyOf x.path ∷ []) (put_feet (suc tx) (metadata_now old) x one)
+        touched_installed (suc tx) old new [] (job_edits x) n [] changed (put_feet (suc tx) (metadata_now old) x changed each)
         (put_own x.target.inode x.target.region (suc tx) x.value (metadata_now old)) was.regions put_regions put_map put.versions base items at since
 
     pub put_since : (base : ℕ) (items : List Item) → metadata_at new base ≡ metadata_at old base → SinceBase old tx base items
-        → SinceBase new tx base (items ++ BodyOf x.path ∷ [])
+        → SinceBase new tx base (items ++ changed)
     put_since base items at since =
-        since_installed (suc tx) old new [] (job_edits x) n [] (BodyOf x.path ∷ []) (put_feet (suc tx) (metadata_now old) x one)
+        since_installed (suc tx) old new [] (job_edits x) n [] changed (put_feet (suc tx) (metadata_now old) x changed each)
         (put_own x.target.inode x.target.region (suc tx) x.value (metadata_now old)) was.regions put_regions put_map put.versions tx base items
         (λ e. absurd (omega (arith, e))) at since
 

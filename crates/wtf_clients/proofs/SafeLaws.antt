@@ -21,8 +21,8 @@ use Rattle.wtf_meta.proofs.ListTests.{has_list}
 use Rattle.wtf_meta.proofs.Telling.{TellsOn, lists_in-later}
 use Rattle.wtf_replay.specs.Views.{TxnView}
 use Rattle.wtf_replay.specs.Insides.{LogBytes, lists_have}
-use Rattle.wtf_compact.specs.Jobs.{JobView, region_at}
-use Rattle.wtf_gc.specs.Extents.{covers}
+use Rattle.wtf_compact.specs.Jobs.{JobView, region_in_map}
+use Rattle.wtf_gc.specs.Extents.{extents_cover}
 use Rattle.wtf_gc.specs.Views.{ScanView, RunView, GcView, mark_of, is_garbage}
 use Rattle.wtf_clients.specs.Views.{TablesView, of_client, of_label, was_job}
 use Rattle.wtf_clients.specs.Named.{ListedBytes}
@@ -51,12 +51,12 @@ names_less size told X Y less tables h = tables_weaker size told (off X) (off Y)
 -- no garbage is named
 pub garbage_unnamed : (size : ℕ) (told : Told) (tables : TablesView) → IsSafe size told tables → NamesNone size told (is_garbage tables.beside.gc) tables
 garbage_unnamed size told tables safe =
-    let g : GcView = tables.beside.gc in names_less size told (λ p. is_below g.older p && not (covers g.newer.found p)) (is_garbage g)
+    let g : GcView = tables.beside.gc in names_less size told (λ p. is_below g.older p && not (extents_cover g.newer.found p)) (is_garbage g)
     (λ p here.
-    let parts = and_parts (is_below g.older p) (not (covers g.older.found p || (covers g.newer.found p || covers g.freed p))) here in
-    let none = or_parts (covers g.older.found p) (covers g.newer.found p || covers g.freed p) (not_any _ parts.1) in
-    let rest = or_parts (covers g.newer.found p) (covers g.freed p) none.1 in
-    and_from (is_below g.older p) (not (covers g.newer.found p)) parts.0 (ap not rest.0))
+    let parts = and_parts (is_below g.older p) (not (extents_cover g.older.found p || (extents_cover g.newer.found p || extents_cover g.freed p))) here in
+    let none = or_parts (extents_cover g.older.found p) (extents_cover g.newer.found p || extents_cover g.freed p) (not_any _ parts.1) in
+    let rest = or_parts (extents_cover g.newer.found p) (extents_cover g.freed p) none.1 in
+    and_from (is_below g.older p) (not (extents_cover g.newer.found p)) parts.0 (ap not rest.0))
     tables safe.done
   where
     not_any : (b : Bool) → not b ≡ true → b ≡ false
@@ -81,7 +81,7 @@ module _ (size : ℕ) (told later : Told) (P : List Place → Bool) (on : TellsO
   region_had (Some v) known h = record { base = base_had v.base known.base h.base; entries = h.entries }
 
 -- the region's value of a map
-pub map_region : (P : List Place → Bool) (Q : Slice → Bool) (w : Map) → MapBytes P Q w → (i : InodeId) (k : ℕ) → MaybeBytes P Q (region_at w i k)
+pub map_region : (P : List Place → Bool) (Q : Slice → Bool) (w : Map) → MapBytes P Q w → (i : InodeId) (k : ℕ) → MaybeBytes P Q (region_in_map w i k)
 map_region P Q w h i k = by (w (Region i k)) (h (Region i k))
   where
     by : (v : Option Value) → ValueBytes P Q v → MaybeBytes P Q (region_of v)
@@ -117,10 +117,10 @@ module _ (size : ℕ) (told later : Told) (Added : (List Place → Bool) → Typ
     unfound = m.unfound;
     ahead = λ n seen i k part.
         let there = held r runs n seen in
-        let known : MaybeBytes (is_told told) (is_listed size told) (region_at (metadata_at old.kv n) i k) =
+        let known : MaybeBytes (is_told told) (is_listed size told) (region_in_map (metadata_at old.kv n) i k) =
         map_region (is_told told) (is_listed size told) (metadata_at old.kv n) (names.live n there.0) i k in
-        region_had size told later (off X) on (region_at (metadata_at old.kv n) i k) known
-        (subst (λ (w : Map). MaybeBytes (off X) (lists_have size later (off X)) (region_at w i k)) (went.maps n there.1) (m.ahead n seen i k part));
+        region_had size told later (off X) on (region_in_map (metadata_at old.kv n) i k) known
+        (subst (λ (w : Map). MaybeBytes (off X) (lists_have size later (off X)) (region_in_map w i k)) (went.maps n there.1) (m.ahead n seen i k part));
   }
 
   -- what a transaction stored lies where it may
@@ -148,11 +148,11 @@ module _ (size : ℕ) (told later : Told) (Added : (List Place → Bool) → Typ
       let low : (p : Place) → Last p ≡ true → p.at < length p.server p.file = below_length (last_scan g) lie.last Last (λ p is. is) in
       let same : g ≡ new.beside.gc = sym went.gc in
       record {
-        gone = subst (λ (e : GcView). NamesNone size later (covers e.freed) new) same (none_on (covers g.freed) lie.freed safe.gone);
-        done = subst (λ (e : GcView). NamesNone size later (λ p. is_below e.older p && not (covers e.newer.found p)) new) same
-            (none_on (λ p. is_below g.older p && not (covers g.newer.found p))
-            (below_length g.older lie.older (λ p. is_below g.older p && not (covers g.newer.found p))
-            (λ p here. (and_parts (is_below g.older p) (not (covers g.newer.found p)) here).0)) safe.done);
+        gone = subst (λ (e : GcView). NamesNone size later (extents_cover e.freed) new) same (none_on (extents_cover g.freed) lie.freed safe.gone);
+        done = subst (λ (e : GcView). NamesNone size later (λ p. is_below e.older p && not (extents_cover e.newer.found p)) new) same
+            (none_on (λ p. is_below g.older p && not (extents_cover g.newer.found p))
+            (below_length g.older lie.older (λ p. is_below g.older p && not (extents_cover g.newer.found p))
+            (λ p here. (and_parts (is_below g.older p) (not (extents_cover g.newer.found p)) here).0)) safe.done);
         going = λ r is X missed.
             let runs : g.running ≡ Some r = ap (λ (e : GcView). e.running) same ∙ is in
             let was : IsMissed size later new.kv g.newer r X =

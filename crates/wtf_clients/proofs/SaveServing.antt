@@ -17,7 +17,7 @@ use Rattle.wtf_meta.specs.Maps.{metadata_at}
 use Rattle.wtf_clients.specs.Views.{BesideView, TablesView, of_client, of_label}
 use Rattle.wtf_clients.specs.Sounds.{AreSound}
 use Rattle.wtf_clients.specs.Named.{TablesBytes, any_byte, no_slice, has_copies}
-use Rattle.wtf_clients.specs.Asked.{lending, asked_of, HasFailed}
+use Rattle.wtf_clients.specs.Asked.{lending, line_asked, HasFailed}
 use Rattle.wtf_clients.specs.Outcomes.{no_load, SaveFault, HasCause}
 use Rattle.wtf_clients.specs.Saves.{with_image, only_image, Saves, SaveTurn}
 use Rattle.wtf_clients.specs.Serves.{NamesTables, AreBased, AreFull, ServesEvent}
@@ -72,6 +72,6 @@ module _ {S : Type 0} {kind : StoreKind S} (laws : KindLaws kind) (down : ℕ �
     full = λ free. save_names Up old new a sound turn (has_copies settings.replicas) no_slice refl;
     adds = none_added kind (span down before after) settings a lengths;
     caused = caused;
-    placed = none_placed kind (span down before after) settings (asked_of kind (span down before after) (lending settings lists lists) old event.Save) a refl;
-    failed = save_failed Up old new (asked_of kind (span down before after) (lending settings lists lists) old event.Save).fails a turn;
+    placed = none_placed kind (span down before after) settings (line_asked kind (span down before after) (lending settings lists lists) old event.Save) a refl;
+    failed = save_failed Up old new (line_asked kind (span down before after) (lending settings lists lists) old event.Save).fails a turn;
   }

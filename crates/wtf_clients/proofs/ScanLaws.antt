@@ -24,8 +24,8 @@ use Rattle.wtf_meta.proofs.Weaker.{base_stays}
 use Rattle.wtf_rw.specs.Stored.{SliceBytes}
 use Rattle.wtf_replay.specs.Views.{TxnView}
 use Rattle.wtf_replay.specs.Insides.{LogBytes, lists_have}
-use Rattle.wtf_compact.specs.Jobs.{JobView, region_at, target_region}
-use Rattle.wtf_gc.specs.Extents.{covers}
+use Rattle.wtf_compact.specs.Jobs.{JobView, region_in_map, target_region}
+use Rattle.wtf_gc.specs.Extents.{extents_cover}
 use Rattle.wtf_gc.specs.Views.{ScanView, RunView, GcView}
 use Rattle.wtf_clients.specs.Views.{TablesView, BesideView, of_client, of_label, was_job}
 use Rattle.wtf_clients.specs.Sounds.{AreSound}
@@ -41,7 +41,7 @@ use Rattle.wtf_clients.proofs.SafeLaws.{off_less, map_region}
 
 -- ---- maps
 -- what holds of each region of a map holds of all of it, where only regions name bytes
-keys_bytes : (P : List Place → Bool) (Q : Slice → Bool) (w : Map) → HasKinds w → ((i : InodeId) (k : ℕ) → MaybeBytes P Q (region_at w i k)) → MapBytes P Q w
+keys_bytes : (P : List Place → Bool) (Q : Slice → Bool) (w : Map) → HasKinds w → ((i : InodeId) (k : ℕ) → MaybeBytes P Q (region_in_map w i k)) → MapBytes P Q w
 keys_bytes P Q w kinds regions q = by q (w q) refl
   where
     of_region : (v : Option Value) → MaybeBytes P Q (region_of v) → ValueBytes P Q v
@@ -150,7 +150,7 @@ module _ {S : Type 0} (kind : StoreKind S) (shelf : List S) (size : ℕ) (told :
       let Q : Slice → Bool = lists_have size told P in
       let all_left = turn.starts.left in
       let at : (n : ℕ) → IsTrue (is_live old.kv n) → MapBytes P Q (metadata_at old.kv n) = λ n is. keys_bytes P Q (metadata_at old.kv n) (kinds n is) (λ i k.
-      subst (λ (w : Map). MaybeBytes P Q (region_at w i k)) (maps n is)
+      subst (λ (w : Map). MaybeBytes P Q (region_in_map w i k)) (maps n is)
       (m.ahead n (turn.starts.seen n ∙ is) i k (omega (arith, all_left)))) in
       record {
         live = at;
@@ -173,11 +173,11 @@ module _ {S : Type 0} (kind : StoreKind S) (shelf : List S) (size : ℕ) (told :
       let started : GcView = record g { running = Some turn.starts.run } in
       let back : started ≡ new.beside.gc = sym turn.starts.is in
       record {
-        gone = subst (λ (e : GcView). NamesNone size told (covers e.freed) new) back
-            (names (off (covers g.freed)) (lists_have size told (off (covers g.freed))) refl safe.gone);
+        gone = subst (λ (e : GcView). NamesNone size told (extents_cover e.freed) new) back
+            (names (off (extents_cover g.freed)) (lists_have size told (off (extents_cover g.freed))) refl safe.gone);
         done =
-            let D : Place → Bool = λ p. is_below g.older p && not (covers g.newer.found p) in
-            subst (λ (e : GcView). NamesNone size told (λ p. is_below e.older p && not (covers e.newer.found p)) new) back
+            let D : Place → Bool = λ p. is_below g.older p && not (extents_cover g.newer.found p) in
+            subst (λ (e : GcView). NamesNone size told (λ p. is_below e.older p && not (extents_cover e.newer.found p)) new) back
             (names (off D) (lists_have size told (off D)) refl safe.done);
         going = λ r is X missed.
             let same : Some turn.starts.run ≡ Some r = ap (λ (e : GcView). e.running) back ∙ is in

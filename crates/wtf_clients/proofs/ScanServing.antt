@@ -29,7 +29,7 @@ use Rattle.wtf_gc.specs.Views.{GcView, is_garbage}
 use Rattle.wtf_clients.specs.Views.{BesideView, TablesView, of_label}
 use Rattle.wtf_clients.specs.Named.{TablesBytes, any_byte, no_slice, has_copies}
 use Rattle.wtf_clients.specs.Outcomes.{Frees, AddsBytes, HasCause}
-use Rattle.wtf_clients.specs.Asked.{LacksPunch, asked_of, lent_by, HasFailed}
+use Rattle.wtf_clients.specs.Asked.{LacksPunch, line_asked, lent_by, HasFailed}
 use Rattle.wtf_clients.specs.Serves.{NamesTables, AreBased, AreFull, ServesLine}
 use Rattle.wtf_clients.proofs.Lacking.{memory_none}
 use Rattle.wtf_clients.proofs.Known.{lent_to}
@@ -81,7 +81,7 @@ module _ {S : Type 0} {kind : StoreKind S} (laws : KindLaws kind) (old new : Dev
   serves_by : (ranges : List (ℕ × Range)) → EachFollows kind (stores old) (stores new) ranges → (a : Answer)
       → AddsBytes kind (between old new) old.settings (Frees k) a
       → HasCause kind (between old new) old.settings ⊥ (AreBased before) (AreFull old.settings before) (Frees k) a
-      → HasFailed (asked_of kind (between old new) (lent_by old new) before (event.Collect k)).fails a
+      → HasFailed (line_asked kind (between old new) (lent_by old new) before (event.Collect k)).fails a
       → ServesLine kind (between old new) (lent_by old new) before after (event.Collect k) a
   serves_by ranges each a adds caused failed = record {
     inside = gc_names before beside jobs (is_inside kind (stores new) old.settings) any_slice refl

@@ -45,9 +45,9 @@ use Rattle.wtf_region.specs.Cached.{CacheTrue}
 use Rattle.wtf_region.specs.Devs.{stores, remembered, told_in, shown_in}
 use Rattle.wtf_replay.specs.Insides.{LogBytes, lists_have}
 use Rattle.wtf_replay.proofs.Later.{tells_on, tells_all_on}
-use Rattle.wtf_compact.specs.Jobs.{region_at}
+use Rattle.wtf_compact.specs.Jobs.{region_in_map}
 use Rattle.wtf_gc.specs.declared.extent.Extent.{Extent}
-use Rattle.wtf_gc.specs.Extents.{covers}
+use Rattle.wtf_gc.specs.Extents.{extents_cover}
 use Rattle.wtf_gc.specs.Frees.{LiesOn}
 use Rattle.wtf_gc.specs.Named.{pointer_has, slice_has, part_has, list_has as names_in, base_has, own_has, under_has, region_has}
 use Rattle.wtf_gc.specs.Parts.{part_of, stands_in, IsIn, Finds}
@@ -136,17 +136,18 @@ module _ (X : Place → Bool) where
 module _ (size : ℕ) (told later : Told) (on : TellsOn told later) (tables : TablesView) (sound : AreSound tables)
     (names : ListedBytes size told (is_told told) tables) where
   region_known : (n : ℕ) → IsTrue (is_live tables.kv n) → (i : InodeId) (k : ℕ)
-      → MaybeBytes (is_told told) (is_listed size told) (region_at (metadata_at tables.kv n) i k)
+      → MaybeBytes (is_told told) (is_listed size told) (region_in_map (metadata_at tables.kv n) i k)
   region_known n live i k = map_region (is_told told) (is_listed size told) (metadata_at tables.kv n) (names.live n live) i k
 
   pub later_safe : IsSafe size told tables → IsSafe size later tables
   later_safe safe = record {
-    gone = tables_later size told later (off (covers tables.beside.gc.freed)) on tables safe.gone;
-    done = tables_later size told later (off (λ p. is_below tables.beside.gc.older p && not (covers tables.beside.gc.newer.found p))) on tables safe.done;
+    gone = tables_later size told later (off (extents_cover tables.beside.gc.freed)) on tables safe.gone;
+    done = tables_later size told later (off (λ p. is_below tables.beside.gc.older p && not (extents_cover tables.beside.gc.newer.found p))) on
+        tables safe.done;
     going = λ r runs X m. tables_later size told later (off X) on tables (safe.going r runs X (record {
       below = m.below;
       unfound = m.unfound;
-      ahead = λ n seen i k part. region_had size told later (off X) on (region_at (metadata_at tables.kv n) i k)
+      ahead = λ n seen i k part. region_had size told later (off X) on (region_in_map (metadata_at tables.kv n) i k)
           (region_known n (seen_live tables r sound runs n seen) i k) (m.ahead n seen i k part);
     }));
     since_txns = safe.since_txns;
@@ -189,17 +190,17 @@ module _ (size : ℕ) (told : Told) (old new : TablesView) (sound : AreSound old
 
   -- They are safe where what was freed and the marks of the last scan are the same, and the others find what they have to.
   safe_by : (g : GcView) → new.beside.gc ≡ g → g.freed ≡ old.beside.gc.freed → (last_scan g).marks ≡ (last_scan old.beside.gc).marks
-      → NamesNone size told (λ p. is_below g.older p && not (covers g.newer.found p)) old
+      → NamesNone size told (λ p. is_below g.older p && not (extents_cover g.newer.found p)) old
       → ((r : RunView) → g.running ≡ Some r → (X : Place → Bool) → IsMissed size told new.kv g.newer r X → NamesNone size told X old)
       → IsSafe size told new
   safe_by g is freed marks done going =
       let back : g ≡ new.beside.gc = sym is in
       let Marked : List ℕ → Place → Bool = λ ms p. nat_lt p.at (mark_in ms p.server p.file) in
       record {
-        gone = subst (λ (e : GcView). NamesNone size told (covers e.freed) new) back
-            (none_on (covers g.freed) (subst (λ (l : List Extent). NamesNone size told (covers l) old) (sym freed) safe.gone));
-        done = subst (λ (e : GcView). NamesNone size told (λ p. is_below e.older p && not (covers e.newer.found p)) new) back
-            (none_on (λ p. is_below g.older p && not (covers g.newer.found p)) done);
+        gone = subst (λ (e : GcView). NamesNone size told (extents_cover e.freed) new) back
+            (none_on (extents_cover g.freed) (subst (λ (l : List Extent). NamesNone size told (extents_cover l) old) (sym freed) safe.gone));
+        done = subst (λ (e : GcView). NamesNone size told (λ p. is_below e.older p && not (extents_cover e.newer.found p)) new) back
+            (none_on (λ p. is_below g.older p && not (extents_cover g.newer.found p)) done);
         going = λ r is_run X missed.
             none_on X (going r (ap (λ (e : GcView). e.running) back ∙ is_run) X
             (subst (λ (e : GcView). IsMissed size told new.kv e.newer r X) is missed));
@@ -223,13 +224,13 @@ module _ (size : ℕ) (told : Told) (old new : TablesView) (sound : AreSound old
     below = m.below;
     unfound = m.unfound;
     ahead = λ n seen i k part.
-        subst (λ (w : Map). MaybeBytes (off X) (lists_have size told (off X)) (region_at w i k)) (maps n (seen_live old r sound runs n seen))
+        subst (λ (w : Map). MaybeBytes (off X) (lists_have size told (off X)) (region_in_map w i k)) (maps n (seen_live old r sound runs n seen))
         (m.ahead n seen i k part);
   }))
 
   -- ---- the next parts of a scan are done, which the stores tell
   module _ (names : ListedBytes size told (is_told told) old) (r : RunView) (runs : old.beside.gc.running ≡ Some r) (n : ℕ) (found : List Extent)
-      (finds : Finds (lists_in size told) new.kv (next_parts r.left n) (covers r.scan.found) (covers found)) where
+      (finds : Finds (lists_in size told) new.kv (next_parts r.left n) (extents_cover r.scan.found) (extents_cover found)) where
     abbrev then_run : RunView
     then_run = run_on r n found
 
@@ -237,8 +238,8 @@ module _ (size : ℕ) (told : Told) (old new : TablesView) (sound : AreSound old
     last_marks = ap (λ (o : Option RunView). (scan_of o old.beside.gc.newer).marks) runs
 
     -- what a region of these parts names was found
-    region_found : (X : Place → Bool) → ((p : Place) → X p ≡ true → covers found p ≡ false) → (m : ℕ) → IsTrue (is_live old.kv m) → (i : InodeId) (k : ℕ)
-        → stands_in (next_parts r.left n) i ≡ true → MaybeBytes (off X) (lists_have size told (off X)) (region_at (metadata_at old.kv m) i k)
+    region_found : (X : Place → Bool) → ((p : Place) → X p ≡ true → extents_cover found p ≡ false) → (m : ℕ) → IsTrue (is_live old.kv m) → (i : InodeId) (k : ℕ)
+        → stands_in (next_parts r.left n) i ≡ true → MaybeBytes (off X) (lists_have size told (off X)) (region_in_map (metadata_at old.kv m) i k)
     region_found X unfound m readable i k stands = by (metadata_at old.kv m (Region i k)) refl
       where
         by : (v : Option Value) → metadata_at old.kv m (Region i k) ≡ v → MaybeBytes (off X) (lists_have size told (off X)) (region_of v)
@@ -252,16 +253,17 @@ module _ (size : ℕ) (told : Told) (old new : TablesView) (sound : AreSound old
             let known : RegionBytes (is_told told) (is_listed size told) v =
             subst (ValueBytes (is_told told) (is_listed size told)) is (names.live m readable (Region i k)) in
             region_off X size told v known (λ p here. false_from_ne_true (X p) (λ mine.
-            both_ways (covers found p) (unfound p mine) (finds.finds p (record { region = v; there = there; names = here }))))
+            both_ways (extents_cover found p) (unfound p mine) (finds.finds p (record { region = v; there = there; names = here }))))
 
     -- so what would be missed now would have been missed before, where what is left has none of it
-    missed_on : (X : Place → Bool) → ((p : Place) → X p ≡ true → is_below old.beside.gc.newer p ≡ true) → ((p : Place) → X p ≡ true → covers found p ≡ false)
+    missed_on : (X : Place → Bool) → ((p : Place) → X p ≡ true → is_below old.beside.gc.newer p ≡ true)
+        → ((p : Place) → X p ≡ true → extents_cover found p ≡ false)
         → ((m : ℕ) → list_any (nat_eq m) r.seen ≡ true → (i : InodeId) (k : ℕ) → SCAN_PARTS - r.left ≤ part_of i
-        → stands_in (next_parts r.left n) i ≡ false → MaybeBytes (off X) (lists_have size told (off X)) (region_at (metadata_at old.kv m) i k))
+        → stands_in (next_parts r.left n) i ≡ false → MaybeBytes (off X) (lists_have size told (off X)) (region_in_map (metadata_at old.kv m) i k))
         → IsMissed size told old.kv old.beside.gc.newer r X
     missed_on X below unfound rest = record {
       below = below;
-      unfound = λ p mine. false_from_ne_true (covers r.scan.found p) (λ had. both_ways (covers found p) (unfound p mine) (finds.keeps p had));
+      unfound = λ p mine. false_from_ne_true (extents_cover r.scan.found p) (λ had. both_ways (extents_cover found p) (unfound p mine) (finds.keeps p had));
       ahead = λ m seen i k part. ⊎_elim
           (λ here. region_found X unfound m (seen_live old r sound runs m seen) i k here)
           (λ later. rest m seen i k part later)
@@ -276,17 +278,17 @@ module _ (size : ℕ) (told : Told) (old new : TablesView) (sound : AreSound old
         let m : IsMissed size told new.kv old.beside.gc.newer then_run X =
         subst (λ (q : RunView). IsMissed size told new.kv old.beside.gc.newer q X) same missed in
         safe.going r runs X (missed_on X m.below m.unfound (λ k seen i j from apart.
-        subst (λ (w : Map). MaybeBytes (off X) (lists_have size told (off X)) (region_at w i j)) (maps k (seen_live old r sound runs k seen))
+        subst (λ (w : Map). MaybeBytes (off X) (lists_have size told (off X)) (region_in_map w i j)) (maps k (seen_live old r sound runs k seen))
         (m.ahead k seen i j (past_parts r.left n i from apart)))))
 
     -- none is left, and the scan has finished
     last_safe : r.left - n ≡ 0 → new.beside.gc ≡ with_finished old.beside.gc then_run.scan → IsSafe size told new
     last_safe none is =
-        let X : Place → Bool = λ p. is_below old.beside.gc.newer p && not (covers found p) in
+        let X : Place → Bool = λ p. is_below old.beside.gc.newer p && not (extents_cover found p) in
         safe_by (with_finished old.beside.gc then_run.scan) is refl (sym last_marks)
         (safe.going r runs X (missed_on X
-        (λ p here. (and_parts (is_below old.beside.gc.newer p) (not (covers found p)) here).0)
-        (λ p here. not-true (covers found p) (and_parts (is_below old.beside.gc.newer p) (not (covers found p)) here).1)
+        (λ p here. (and_parts (is_below old.beside.gc.newer p) (not (extents_cover found p)) here).0)
+        (λ p here. not-true (extents_cover found p) (and_parts (is_below old.beside.gc.newer p) (not (extents_cover found p)) here).1)
         (λ k seen i j from apart. absurd (none_past r.left n i none from apart))))
         (λ q is_run X missed. absurd (not_none q is_run))
 
@@ -383,10 +385,11 @@ module _ {S : Type 0} {kind : StoreKind S} (laws : KindLaws kind) (before after 
 
     module _ (n left : ℕ) (turn : DoesTurn kind before after old new n left) where
       -- and they find what the versions of their keys name there
-      pub piece_finds : Finds (lists_in size later) new.kv (next_parts turn.does.run.left n) (covers turn.does.run.scan.found) (covers turn.does.found)
+      pub piece_finds : Finds (lists_in size later) new.kv (next_parts turn.does.run.left n) (extents_cover turn.does.run.scan.found)
+          (extents_cover turn.does.found)
       piece_finds =
           turn.does.reads.finds (lists_in size later)
-          (parts_tell turn.does.run.left n (covers turn.does.run.scan.found) (covers turn.does.found) turn.prunes turn.does.reads)
+          (parts_tell turn.does.run.left n (extents_cover turn.does.run.scan.found) (extents_cover turn.does.found) turn.prunes turn.does.reads)
 
       -- no other bytes are named
       pub piece_names : NamesTables old new

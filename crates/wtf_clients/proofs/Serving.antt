@@ -41,10 +41,10 @@ use Rattle.wtf_replay.proofs.Naming.{named_inside}
 use Rattle.wtf_clients.specs.Views.{Clients, TablesView, of_client}
 use Rattle.wtf_clients.specs.Sounds.{AreSound, Sets}
 use Rattle.wtf_clients.specs.Named.{TablesBytes, any_byte, no_slice, has_copies}
-use Rattle.wtf_clients.specs.Asked.{Asked, asked_of, lent_by, IsPlaced, HasFailed}
+use Rattle.wtf_clients.specs.Asked.{Asked, line_asked, lent_by, IsPlaced, HasFailed}
 use Rattle.wtf_clients.specs.Outcomes.{Data, no_load, AddsBytes, HasCause, data_of_op}
 use Rattle.wtf_clients.specs.Serves.{NamesTables, IsPlain, AreBased, AreBare, AreFull, Serves}
-use Rattle.wtf_clients.specs.Turns.{Ends, Stays}
+use Rattle.wtf_clients.specs.Turns.{Ends, TablesStay}
 use Rattle.wtf_clients.proofs.Lives.{now_bytes}
 use Rattle.wtf_clients.proofs.Making.{answered, same_answer}
 use Rattle.wtf_clients.proofs.Naming.{value_later, keeps_bytes, stays_bytes, leaves_bytes, ends_bytes}
@@ -269,7 +269,7 @@ module _ {S : Type 0} {kind : StoreKind S} (laws : KindLaws kind) (old new : Dev
             hole (no_lists P named.lists),
       )
 
-  pub stays_names : (after : TablesView) (c : ℕ) → Stays before after c → NamesAfter kind old new before after
+  pub stays_names : (after : TablesView) (c : ℕ) → TablesStay before after c → NamesAfter kind old new before after
   stays_names after c st = from_names after (λ P Q hole h. stays_bytes P Q before after c sound st h)
 
   module _ (clients : Clients) (c : ℕ) (x y : TxnView) (there : of_client before.clients c ≡ Some x) (sets : Sets c (Some y) before.clients clients)
@@ -299,7 +299,7 @@ module _ {S : Type 0} {kind : StoreKind S} (laws : KindLaws kind) (old new : Dev
     same_bytes P Q same h = subst (TxnBytes P Q before.kv) (sym same) (h.each c x there)
 
     abbrev asked : Op (List ℕ) → Asked
-    asked o = asked_of kind (between old new) (lent_by old new) before (event.Client c (verb.Call o))
+    asked o = line_asked kind (between old new) (lent_by old new) before (event.Client c (verb.Call o))
 
     -- a call
     pub call_serves : IsRing old.settings.servers old.ring.now.points → (o : Op (List ℕ)) (a : Answer)

@@ -22,7 +22,7 @@ use Rattle.wtf_meta.specs.Feet.{Feet}
 use Rattle.wtf_meta.specs.Maps.{Map, Edits, with, metadata_at}
 use Rattle.wtf_meta.specs.Trees.{Stands, Own}
 use Rattle.wtf_replay.specs.Views.{TxnView}
-use Rattle.wtf_replay.specs.Sounds.{IsSound, caller_at}
+use Rattle.wtf_replay.specs.Sounds.{LogStands, caller_at}
 use Rattle.wtf_replay.specs.Tried.{KeepsMaps, KeepsVersions}
 use Rattle.wtf_clients.specs.Views.{TablesView, metadata_now}
 use Rattle.wtf_clients.specs.Sounds.{IsTidied}
@@ -116,7 +116,7 @@ some_is (Some q) h = (q, refl)
 
 -- of a transaction whose calls are all done, an item that they read was touched, where a key is in the way
 pub retry_met : (size : ℕ) (kv : Store Key Value) (told : Told) (x : TxnView) (ops : List (Op (List ℕ))) (tree : Tree) (items : List Item)
-    → IsSound size kv told x ops → take x.replayed ops ≡ ops → Stands size told x.tx 0 (metadata_at kv x.at.base) tree → SinceBase kv x.tx x.at.base items
+    → LogStands size kv told x ops → take x.replayed ops ≡ ops → Stands size told x.tx 0 (metadata_at kv x.at.base) tree → SinceBase kv x.tx x.at.base items
     → IsSome (key_in_the_way key_cmp outcome_of x.at kv)
     → ((q : Key) → key_in_the_way key_cmp outcome_of x.at kv ≡ Some q → x.at.base < version_of key_cmp kv kv.number q)
     → meets items (reads_of (cap_for (caller_at size x.tx 0)) tree ops) ≡ true

@@ -38,7 +38,7 @@ use Rattle.wtf_clients.proofs.Staying.{goes_sound, keeps_stays, stays_sound}
 -- ---- a transaction begins
 module _ (old new : TablesView) (c : ℕ) (a : Answer) (sound : AreSound old) (none : of_client old.clients c ≡ None) (begins : Begins old new c a) where
   -- the client has a transaction of the next number, at the number now, which is pinned for it
-  begins_turned : Turned old new c (Some (begun old.next_tx old.kv.number))
+  pub begins_turned : Turned old new c (Some (begun old.next_tx old.kv.number))
   begins_turned =
       let number : new.kv.number ≡ old.kv.number = ap (λ (k : Store Key Value). k.number) begins.kv in
       let next = begins.next_tx in
@@ -127,7 +127,7 @@ dropped_sound old kv clients c sound some sets is once = by (of_client old.clien
 module _ (old new : TablesView) (c : ℕ) (x : TxnView) (b n : ℕ) (sound : AreSound old) (here : of_client old.clients c ≡ Some x)
     (turn : Retries old new c x b n) where
   -- the transaction with its log, and nothing done
-  abbrev again : TxnView
+  abbrev pub again : TxnView
   again = turn.later
 
   -- it has its number, and the store's as its base
@@ -153,7 +153,7 @@ module _ (old new : TablesView) (c : ℕ) (x : TxnView) (b n : ℕ) (sound : Are
       }
 
   -- the pin of its base has moved to the number
-  retry_turned : Turned old new c (Some again)
+  pub retry_turned : Turned old new c (Some again)
   retry_turned = record {
     sets = turn.clients;
     later = let number = turn.retried.number in omega (arith, number);

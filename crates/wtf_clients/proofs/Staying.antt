@@ -23,7 +23,7 @@ use Rattle.wtf_replay.proofs.Keeping.{fit_after}
 use Rattle.wtf_clients.specs.Views.{TablesView, of_client, metadata_now}
 use Rattle.wtf_clients.specs.Sounds.{owned, IsOpen, AreSound, Sets}
 use Rattle.wtf_clients.specs.Standing.{StandsForSlot, TablesStand}
-use Rattle.wtf_clients.specs.Turns.{Keeps, Stays}
+use Rattle.wtf_clients.specs.Turns.{SetsClientAlone, TablesStay}
 use Rattle.wtf_clients.proofs.SinceLaws.{since_kept}
 use Rattle.wtf_clients.proofs.Frames.{Turned, untouched_same, txn_on, slot_on, sound_turned, stands_kept}
 use Rattle.wtf_clients.proofs.Later.{Stands-later}
@@ -44,7 +44,7 @@ fault_is (fault.Damaged k) a is = subst IsFault (let e : answer.Damaged k.0 ≡ 
 fault_is fault.Memory a is = absurd (let e : None ≡ Some a = is in cc)
 
 -- the store is what it was
-pub keeps_stays : (old new : TablesView) (c : ℕ) → Keeps old new c (of_client old.clients c) → Stays old new c
+pub keeps_stays : (old new : TablesView) (c : ℕ) → SetsClientAlone old new c (of_client old.clients c) → TablesStay old new c
 keeps_stays old new c h = record {
   clients = h.clients;
   number = ap (λ (s : Store Key Value). s.number) h.kv;
@@ -58,7 +58,7 @@ keeps_stays old new c h = record {
 -- the transaction of the client is what it was
 pub same_stays : (old new : TablesView) (c : ℕ) (x y : TxnView) → of_client old.clients c ≡ Some x → Sets c (Some y) old.clients new.clients → y ≡ x
     → new.kv.number ≡ old.kv.number → KeepsMaps old.kv new.kv → KeepsVersions old.kv new.kv → KeepsPins old.kv new.kv → new.next_tx ≡ old.next_tx
-    → new.beside ≡ old.beside → Stays old new c
+    → new.beside ≡ old.beside → TablesStay old new c
 same_stays old new c x y there sets same number maps versions pins next beside = record {
   clients = subst (λ o. Sets c o old.clients new.clients) (ap Some same ∙ sym there) sets;
   number = number;
@@ -69,7 +69,7 @@ same_stays old new c x y there sets same number maps versions pins next beside =
   beside = beside;
 }
 
-module _ (old new : TablesView) (c : ℕ) (sound : AreSound old) (st : Stays old new c) where
+module _ (old new : TablesView) (c : ℕ) (sound : AreSound old) (st : TablesStay old new c) where
   stays_turned : Turned old new c (of_client old.clients c)
   stays_turned =
       let number = st.number in
@@ -112,7 +112,8 @@ module _ (old new : TablesView) (c : ℕ) (sound : AreSound old) (st : Stays old
       (stand.each c)))
 
 -- ---- a transaction that goes on at its base
-module _ (old new : TablesView) (c : ℕ) (x y : TxnView) (sound : AreSound old) (here : of_client old.clients c ≡ Some x) (keeps : Keeps old new c (Some y))
+module _ (old new : TablesView) (c : ℕ) (x y : TxnView) (sound : AreSound old) (here : of_client old.clients c ≡ Some x)
+    (keeps : SetsClientAlone old new c (Some y))
     (tx : y.tx ≡ x.tx) (base : y.at.base ≡ x.at.base) (going : y.ended ≡ x.ended) (fit : IsFit old.kv y) where
   -- it is open
   goes_open : IsOpen new.kv new.next_tx y

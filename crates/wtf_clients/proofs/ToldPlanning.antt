@@ -37,8 +37,8 @@ use Rattle.wtf_replay.specs.Causes.{fault_answer}
 use Rattle.wtf_replay.specs.Insides.{lists_have}
 use Rattle.wtf_replay.specs.Views.{TxnView}
 use Rattle.wtf_replay.proofs.Later.{tells_on}
-use Rattle.wtf_compact.specs.Jobs.{JobView, job_target, region_at, target_region}
-use Rattle.wtf_compact.specs.Planned.{IsShort, IsSpilled, IsPlanned, IsPlanFault, spills}
+use Rattle.wtf_compact.specs.Jobs.{JobView, job_target, region_in_map, target_region}
+use Rattle.wtf_compact.specs.Planned.{IsUnstoredShort, IsSpilled, IsPlanned, IsPlanFault, spills}
 use Rattle.wtf_clients.specs.Views.{BesideView, TablesView, of_client, of_label, metadata_now}
 use Rattle.wtf_clients.specs.Sounds.{AreSound}
 use Rattle.wtf_clients.specs.Named.{TablesBytes, has_copies}
@@ -97,7 +97,7 @@ own_stored P own stored value x is h =
     subst (ListSlices P any_slice) (sym is.0) (mine, tt)
 
 -- one without a base stored nothing
-short_own : (P : List Place → Bool) (stored : List ListFact) (value : Option RegionValue) → IsShort stored value → OwnBytes P value
+short_own : (P : List Place → Bool) (stored : List ListFact) (value : Option RegionValue) → IsUnstoredShort stored value → OwnBytes P value
 short_own P stored None h = tt
 short_own P stored (Some x) h = subst (BaseBytes P any_slice) (sym h.1) tt
 
@@ -259,7 +259,7 @@ module _ {S : Type 0} {kind : StoreKind S} (laws : KindLaws kind) (old new : Dev
 
   -- ---- one that failed, of the file to which the path leads
   pub plan_failed_told : IsRing old.settings.servers old.ring.now.points → (i : InodeId) → LeadsTo now p i → (why : Fault) (a : Answer)
-      → fault_answer why ≡ Some a → IsPlanFault kind old new (job_target i r jk) (region_at now i r) why → ServesTold kind (between old new) old.settings
+      → fault_answer why ≡ Some a → IsPlanFault kind old new (job_target i r jk) (region_in_map now i r) why → ServesTold kind (between old new) old.settings
       (before, before) a
   plan_failed_told ring i leads why a is fails =
       stays_told laws old new goes lent before sound inside tells before 0 (load_of_job jk) a (all_stays before 0)

@@ -43,7 +43,7 @@ use Rattle.wtf_clients.specs.Outcomes.{Load, Data, no_load, HasCause, data_of_op
 use Rattle.wtf_clients.specs.Serves.{NamesTables, IsPlain, AreBased}
 use Rattle.wtf_clients.specs.Safe.{IsOwnTxn, FollowsTxn, Went}
 use Rattle.wtf_clients.specs.Telling.{ListedBytes, TellsTables, AreWide, HoldsOfAdded, ServesTold}
-use Rattle.wtf_clients.specs.Turns.{Ends, Stays}
+use Rattle.wtf_clients.specs.Turns.{Ends, TablesStay}
 use Rattle.wtf_clients.proofs.Added.{own_added, own_logged}
 use Rattle.wtf_clients.proofs.Caused.{logged_plain, plain_caused}
 use Rattle.wtf_clients.proofs.Dumping.{dump_caused}
@@ -81,7 +81,7 @@ pub stepped_log : {S : Type 0} (t : Turn S) (a : Answer) → StepOf t (Ok a) →
 stepped_log t a did = log_or t.old t.new t.before t.after a (step_refusal t.old) did.refused did.stepped
 
 -- what changes nothing
-pub all_stays : (tables : TablesView) (c : ℕ) → Stays tables tables c
+pub all_stays : (tables : TablesView) (c : ℕ) → TablesStay tables tables c
 all_stays tables c = record {
   clients = sets_same c tables.clients tables.clients refl;
   number = refl;
@@ -131,13 +131,13 @@ module _ {S : Type 0} {kind : StoreKind S} (laws : KindLaws kind) (old new : Dev
   Gone after = Went size told later Added before after
 
   -- lines that leave all that is seen of the tables
-  pub stays_told : (after : TablesView) (c : ℕ) (load : Load) (a : Answer) → Stays before after c → Why load a → Served after a
+  pub stays_told : (after : TablesView) (c : ℕ) (load : Load) (a : Answer) → TablesStay before after c → Why load a → Served after a
   stays_told after c load a st why =
       told_serves laws old new goes lent before tells after load a
       (stays_went size told later on Added before after c sound tells.names (of_client before.clients c) st.clients st.maps
       (same_reaches before.kv after.kv st.pins) st.beside (λ P Q hole h. stays_bytes P Q before after c sound st h) (λ y is. is)) why
 
-  pub plain_told : (after : TablesView) (c : ℕ) (a : Answer) → Stays before after c → IsPlain a → Served after a
+  pub plain_told : (after : TablesView) (c : ℕ) (a : Answer) → TablesStay before after c → IsPlain a → Served after a
   plain_told after c a st plain = stays_told after c no_load a st (plain_why no_load a plain)
 
   -- one that ended a transaction, which left the map now
@@ -324,5 +324,5 @@ pub same_told : {S : Type 0} {kind : StoreKind S} → KindLaws kind → (dev : D
     → TellsTables kind (stores dev) dev.settings (remembered dev) before → ServesTold kind (between dev dev) dev.settings (before, after) a
 same_told {kind = kind} laws dev lent before after sound inside same a plain tells =
     stays_told laws dev dev (goes_nowhere laws dev lent) lent before sound inside tells after 0 no_load a
-    (subst (λ (t : TablesView). Stays before t 0) (sym same) (all_stays before 0))
+    (subst (λ (t : TablesView). TablesStay before t 0) (sym same) (all_stays before 0))
     (plain_caused kind (between dev dev) dev.settings ⊥ (AreBased before) (AreWide dev.settings (told_in kind dev) before) no_load a plain)

@@ -22,7 +22,7 @@ use Rattle.wtf_meta.specs.Maps.{Map, Edits, with, metadata_at}
 use Rattle.wtf_meta.specs.Trees.{LeadsTo, Own}
 use Rattle.wtf_meta.specs.Feet.{Has, ReadBy, WrittenBy, EachWritten, Feet}
 use Rattle.wtf_meta.proofs.FeetLaws.{read_in_the_way, written_at}
-use Rattle.wtf_clients.specs.Touched.{above, NoneMoved, IsStill, Touched, OwnStill}
+use Rattle.wtf_clients.specs.Touched.{above, NoneMoved, IsFileStill, Touched, OwnStill}
 use Rattle.wtf_clients.proofs.AboveLaws.{above-version}
 
 -- an install adds versions of those keys alone of which its changes make one
@@ -52,8 +52,8 @@ module _ (other : ℕ) (base old : Map) (before after : Key → Bool) (items : L
   moved_by q now = ⊎_elim (λ was. inl was) (λ made. inr (made_written old W cs q feet.written made)) (added q now)
 
   -- a file whose bytes were not touched, neither before nor by the install, stands still
-  still_by : (p : List ℕ) (i : InodeId) → LeadsTo old p i → IsStill before i → is_among W (BodyOf p) ≡ false
-      → LeadsTo (with cs old) p i × IsStill after i
+  still_by : (p : List ℕ) (i : InodeId) → LeadsTo old p i → IsFileStill before i → is_among W (BodyOf p) ≡ false
+      → LeadsTo (with cs old) p i × IsFileStill after i
   still_by p i to still none = (
     ⊎_elim (λ there. there) (λ gone. absurd (both_ways (is_among W (BodyOf p)) none gone.1)) (feet.stays p i to),
     record {
@@ -138,7 +138,7 @@ own_none tx w moved gone none = record {
 }
 
 module _ (before after : Key → Bool) (fewer : NoneMoved before after) where
-  still_along : (i : InodeId) → IsStill before i → IsStill after i
+  still_along : (i : InodeId) → IsFileStill before i → IsFileStill after i
   still_along i still = record {
     inode = false_from_ne_true (after (Inode i)) (λ now. both_ways (before (Inode i)) still.inode (fewer (Inode i) now));
     regions = λ r. false_from_ne_true (after (Region i r)) (λ now. both_ways (before (Region i r)) (still.regions r) (fewer (Region i r) now));
@@ -159,7 +159,7 @@ module _ (before after : Key → Bool) (fewer : NoneMoved before after) where
 
 module _ (tx : ℕ) (base now : Map) (moved : Key → Bool) (items R : List Item) (touched : Touched base now moved items) (own : OwnStill tx now moved) where
   -- the bytes of a file, of whose keys one has moved
-  met_body : (p : List ℕ) (i : InodeId) → LeadsTo base p i → Has (BodyOf p) R → (IsStill moved i → ⊥) → meets items R ≡ true
+  met_body : (p : List ℕ) (i : InodeId) → LeadsTo base p i → Has (BodyOf p) R → (IsFileStill moved i → ⊥) → meets items R ≡ true
   met_body p i to read not_still = ⊎_elim
       (λ was. meets-by items R (BodyOf p) was read)
       (λ still. absurd (not_still still.1))

@@ -34,7 +34,7 @@ use Rattle.wtf_region.specs.Devs.{between, place_in, remembered}
 use Rattle.wtf_rw.specs.Stored.{end_place}
 use Rattle.wtf_replay.specs.Causes.{FaultAt, IsCallFault, IsCommitFault, fault_answer}
 use Rattle.wtf_replay.specs.Views.{TxnView, hand_of}
-use Rattle.wtf_compact.specs.Jobs.{job_target, region_at}
+use Rattle.wtf_compact.specs.Jobs.{job_target, region_in_map}
 use Rattle.wtf_compact.specs.Planned.{IsPlanFault}
 use Rattle.wtf_gc.specs.Scans.{IsPrunedFrom, IsPieceFault}
 use Rattle.wtf_gc.specs.Views.{is_garbage}
@@ -85,14 +85,14 @@ IsLinePlace dev tables e place = ⊥
 
 -- a region that is to be planned has no byte, so that nothing of it is to be stored
 abbrev pub IsLineEmpty : TablesView → Event → Type 0
-IsLineEmpty tables (event.Plan j kind p r) = (i : InodeId) × LeadsTo (metadata_now tables.kv) p i × (end_of (region_at (metadata_now tables.kv) i r) ≡ 0)
+IsLineEmpty tables (event.Plan j kind p r) = (i : InodeId) × LeadsTo (metadata_now tables.kv) p i × (end_of (region_in_map (metadata_now tables.kv) i r) ≡ 0)
 IsLineEmpty tables e = ⊥
 
 -- the list of a region of the file at a path was not read, or the one that is to take its place was not stored
 pub record LacksPlan {S : Type 0} (kind : StoreKind S) (old new : Dev S) (w : Map) (jk : JobKind) (p : List ℕ) (r : ℕ) (why : Fault) : Type 0 where
   pub inode : InodeId
   pub leads : LeadsTo w p inode
-  pub cause : IsPlanFault kind old new (job_target inode r jk) (region_at w inode r) why
+  pub cause : IsPlanFault kind old new (job_target inode r jk) (region_in_map w inode r) why
 
 -- a list that the next parts of a scan have to read was not read, a base of a version that is kept
 pub record LacksPart {S : Type 0} (kind : StoreKind S) (old new : Dev S) (tables : TablesView) (k : ℕ) (why : Fault) : Type 0 where
@@ -129,8 +129,8 @@ pub record Asked : Type 1 where
   pub empty : Type 0
   pub fails : Fault → Type 0
 
-abbrev pub asked_of : {S : Type 0} → StoreKind S → Span S → Lending → TablesView → Event → Asked
-asked_of {S} kind t lent tables e = record {
+abbrev pub line_asked : {S : Type 0} → StoreKind S → Span S → Lending → TablesView → Event → Asked
+line_asked {S} kind t lent tables e = record {
   given = load_of e;
   goes_to = λ place. (old : Dev S) × (new : Dev S) × IsLent t lent old new × IsLinePlace old tables e place;
   empty = IsLineEmpty tables e;

@@ -22,13 +22,13 @@ use Rattle.wtf_replay.specs.Causes.{fault_answer}
 use Rattle.wtf_replay.specs.Tried.{KeepsMaps}
 use Rattle.wtf_compact.specs.declared.target.Target.{Target}
 use Rattle.wtf_compact.specs.Jobs.{JobView, IsJobOf, target_region}
-use Rattle.wtf_compact.specs.Planned.{KeepsRegion, IsShort, IsSpilled, spills}
-use Rattle.wtf_compact.specs.Putting.{IsPut}
+use Rattle.wtf_compact.specs.Planned.{KeepsRegion, IsUnstoredShort, IsSpilled, spills}
+use Rattle.wtf_compact.specs.Putting.{IsJobPut}
 use Rattle.wtf_clients.specs.Planning.{refusal_of}
 use Rattle.wtf_clients.specs.Views.{TablesView, of_label, was_job, with_labels, metadata_now}
 use Rattle.wtf_clients.specs.Sounds.{SetsJob}
 use Rattle.wtf_clients.specs.Seeing.{Seeing, Recalled}
-use Rattle.wtf_clients.specs.Turns.{Tells, Reads}
+use Rattle.wtf_clients.specs.Turns.{ListsAreTold, ReadsLists}
 
 -- All is what it was but for the store of the metadata and the job of label j; that is now this one, or none.
 pub record KeepsOthers (old new : TablesView) (j : ℕ) (now : Option JobView) : Type 0 where
@@ -58,7 +58,7 @@ pub record IsMadeOf (t : Target) (now value : Option RegionValue) : Type 0 where
   pub stored : List ListFact
   pub same : SamePlaces (region_facts now under ++ stored) now value
   pub there : is_some value ≡ is_some now
-  pub short : spills t.kind (end_of now) ≡ false → IsShort stored value
+  pub short : spills t.kind (end_of now) ≡ false → IsUnstoredShort stored value
   pub spilled : spills t.kind (end_of now) ≡ true → IsSpilled stored value
 
 -- A job of this value was planned at the number, which it pins. It was not open when the last scan began.
@@ -76,7 +76,7 @@ pub record Plans (old new : TablesView) (j : ℕ) (kind : JobKind) (p : List ℕ
 pub record Puts (old new : TablesView) (j : ℕ) (x : JobView) (a : Answer) : Type 0 where
   pub keeps : KeepsOthers old new j None
   pub marks : new.beside.scan_jobs ≡ old.beside.scan_jobs
-  pub put : IsPut x old.kv new.kv a
+  pub put : IsJobPut x old.kv new.kv a
   pub maps : KeepsMaps old.kv new.kv
   pub unpinned : IsPinnedOnceMore x.base new.kv old.kv
 
@@ -102,12 +102,12 @@ module _ (z : Seeing) where
     pub job : JobView
     pub plans : Plans old new j kind p r job
     pub recalls : Recalled z (region_facts (target_region (metadata_now old.kv) job.target) plans.made.under)
-    pub known : (Reads z).known (region_facts (target_region (metadata_now old.kv) job.target) plans.made.under)
+    pub known : (ReadsLists z).known (region_facts (target_region (metadata_now old.kv) job.target) plans.made.under)
     pub written : spills job.target.kind (end_of (target_region (metadata_now old.kv) job.target)) ≡ true → z.stores job.target plans.made.stored
     pub own : z.telling → TellLists (lists_in z.size z.later) plans.made.stored
     pub free : refusal_of z.size (metadata_now old.kv) p r ≡ None
     pub due : (tx k : ℕ) (t : Tree) → Stands z.size z.told tx k (metadata_now old.kv) t → plan_due z.size t p r ≡ answer.Planned
-    pub keeps : Tells z old (metadata_now old.kv)
+    pub keeps : ListsAreTold z old (metadata_now old.kv)
         → KeepsRegion z.size z.later (target_region (metadata_now old.kv) job.target) job.value
 
   -- no job was planned, for the first reason that the map gives against one; and each tree for which it stands gives the same

@@ -10,7 +10,7 @@ use Rattle.wtf_model.specs.declared.event.Verb.{Verb}
 use Rattle.wtf_model.specs.declared.event.Verb.TheVariants as verb
 use Rattle.wtf_replay.specs.Refusals.{call_refusal, step_refusal}
 use Rattle.wtf_replay.specs.Views.{TxnView}
-use Rattle.wtf_clients.specs.Asked.{Lending, Asked, asked_of}
+use Rattle.wtf_clients.specs.Asked.{Lending, Asked, line_asked}
 use Rattle.wtf_clients.specs.Dumped.{IsNoFile}
 use Rattle.wtf_clients.specs.Planning.{refusal_of}
 use Rattle.wtf_clients.specs.Views.{TablesView, of_client, of_label, metadata_now}
@@ -48,5 +48,5 @@ GrowsOnly kind t asked =
 pub record LeavesAlone {S : Type 0} (kind : StoreKind S) (t : Span S) (lent : Lending) (tables : TablesView) (e : Event) : Type 0 where
   pub down : IsLeftDown t
   pub syncs : SyncsNone kind t e
-  pub files : GrowsOnly kind t (asked_of kind t lent tables e)
+  pub files : GrowsOnly kind t (line_asked kind t lent tables e)
   pub lists : ReadsNoList lent.settings.region tables e → lent.left ≡ lent.lists

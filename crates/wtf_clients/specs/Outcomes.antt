@@ -37,9 +37,9 @@ abbrev pub data_of_verb : Verb → List ℕ
 data_of_verb (verb.Call o) = data_of_op o
 data_of_verb other = []
 
-abbrev pub data_of : Event → List ℕ
-data_of (event.Client c v) = data_of_verb v
-data_of other = []
+abbrev pub data_of_event : Event → List ℕ
+data_of_event (event.Client c v) = data_of_verb v
+data_of_event other = []
 
 -- what a line asks of the stores but to be read: to store bytes that it hands in, or the list of a region, which is in no line; or to free
 -- what is garbage of a server
@@ -59,7 +59,7 @@ load_of_job Spill = RegionList
 abbrev pub load_of : Event → Load
 load_of (event.Plan j kind p r) = load_of_job kind
 load_of (event.Collect k) = Frees k
-load_of e = Data (data_of e)
+load_of e = Data (data_of_event e)
 
 -- there is a byte to store
 abbrev pub HasToStore : Load → Type 0

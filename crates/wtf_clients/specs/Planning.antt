@@ -12,11 +12,11 @@ use Rattle.wtf_meta.specs.FileEdits.{file_of}
 use Rattle.wtf_meta.specs.Files.{end_of}
 use Rattle.wtf_meta.specs.Maps.{Map}
 use Rattle.wtf_index.specs.Checks.{stands_at}
-use Rattle.wtf_compact.specs.Jobs.{region_at}
+use Rattle.wtf_compact.specs.Jobs.{region_in_map}
 
 -- Region r is one of the file, where a region has `size` bytes. Of a file of a tree that is said by its last region alone.
 abbrev pub has_region : ℕ → Map → InodeId → ℕ → Bool
-has_region size w i r = nat_le r (file_of i w).last && (nat_lt r MAX_REGIONS && nat_le (end_of (region_at w i r)) size)
+has_region size w i r = nat_le r (file_of i w).last && (nat_lt r MAX_REGIONS && nat_le (end_of (region_in_map w i r)) size)
 
 -- why no job may be of region r, by what stands at the path
 abbrev pub refusal_at : ℕ → Map → ℕ → Option Node → Option Word

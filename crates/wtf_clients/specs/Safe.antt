@@ -14,8 +14,8 @@ use Rattle.wtf_meta.specs.Contents.{Told}
 use Rattle.wtf_meta.specs.Maps.{metadata_at}
 use Rattle.wtf_replay.specs.Views.{TxnView}
 use Rattle.wtf_replay.specs.Insides.{LogBytes, TxnBytes, lists_have}
-use Rattle.wtf_compact.specs.Jobs.{JobView, region_at, target_region}
-use Rattle.wtf_gc.specs.Extents.{covers}
+use Rattle.wtf_compact.specs.Jobs.{JobView, region_in_map, target_region}
+use Rattle.wtf_gc.specs.Extents.{extents_cover}
 use Rattle.wtf_gc.specs.Parts.{part_of}
 use Rattle.wtf_gc.specs.Views.{ScanView, RunView, GcView, mark_of}
 use Rattle.wtf_clients.specs.Views.{TablesView, of_client, of_label, was_job}
@@ -61,9 +61,9 @@ IsOwnJob size told kv x = (P : List Place → Bool) → P [] ≡ true
 -- of a part that is left names one at a number that it has pinned.
 pub record IsMissed (size : ℕ) (told : Told) (kv : Store Key Value) (newer : ScanView) (r : RunView) (X : Place → Bool) : Type 0 where
   pub below : (p : Place) → X p ≡ true → is_below newer p ≡ true
-  pub unfound : (p : Place) → X p ≡ true → covers r.scan.found p ≡ false
+  pub unfound : (p : Place) → X p ≡ true → extents_cover r.scan.found p ≡ false
   pub ahead : (n : ℕ) → list_any (nat_eq n) r.seen ≡ true → (i : InodeId) (k : ℕ) → SCAN_PARTS - r.left ≤ part_of i
-      → MaybeBytes (off X) (lists_have size told (off X)) (region_at (metadata_at kv n) i k)
+      → MaybeBytes (off X) (lists_have size told (off X)) (region_in_map (metadata_at kv n) i k)
 
 -- each mark of a scan is at most its file's length
 abbrev pub AreUpto : ScanView → (ℕ → ℕ → ℕ) → Type 0
@@ -74,14 +74,14 @@ pub record LieIn (gc : GcView) (length : ℕ → ℕ → ℕ) : Type 0 where
   pub older : AreUpto gc.older length
   pub newer : AreUpto gc.newer length
   pub last : AreUpto (last_scan gc) length
-  pub freed : (p : Place) → covers gc.freed p ≡ true → p.at < length p.server p.file
+  pub freed : (p : Place) → extents_cover gc.freed p ≡ true → p.at < length p.server p.file
 
 -- What was freed is named by nothing. Each byte below the marks of the first of the last two scans that anything names was found by the
 -- second of them; and each below those of the second, while a scan runs, was found by that one or will be. A transaction or a job that was
 -- not open when the last scan began has stored only bytes that lie past its marks, and names no other than these and what its base names.
 pub record IsSafe (size : ℕ) (told : Told) (tables : TablesView) : Type 0 where
-  pub gone : NamesNone size told (covers tables.beside.gc.freed) tables
-  pub done : NamesNone size told (λ p. is_below tables.beside.gc.older p && not (covers tables.beside.gc.newer.found p)) tables
+  pub gone : NamesNone size told (extents_cover tables.beside.gc.freed) tables
+  pub done : NamesNone size told (λ p. is_below tables.beside.gc.older p && not (extents_cover tables.beside.gc.newer.found p)) tables
   pub going : (r : RunView) → tables.beside.gc.running ≡ Some r → (X : Place → Bool)
       → IsMissed size told tables.kv tables.beside.gc.newer r X → NamesNone size told X tables
   pub since_txns : (c : ℕ) (x : TxnView) → of_client tables.clients c ≡ Some x → tables.beside.scan_tx ≤ x.tx

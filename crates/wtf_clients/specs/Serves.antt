@@ -12,7 +12,7 @@ use Rattle.wtf_region.specs.Inside.{is_inside}
 use Rattle.wtf_clients.specs.Views.{TablesView}
 use Rattle.wtf_clients.specs.Named.{TablesBytes, any_byte, no_slice, has_copies}
 use Rattle.wtf_model.specs.declared.event.Event.{Event}
-use Rattle.wtf_clients.specs.Asked.{Lending, Asked, asked_of, IsPlaced, HasFailed}
+use Rattle.wtf_clients.specs.Asked.{Lending, Asked, line_asked, IsPlaced, HasFailed}
 use Rattle.wtf_clients.specs.Outcomes.{AddsBytes, IsUnspilled, SaveFault, HasCause}
 
 -- what is named was named before: what holds of the places of each of those bytes, and of a hole, goes on holding, and so does
@@ -56,8 +56,8 @@ pub record Serves {S : Type 0} (kind : StoreKind S) (t : Span S) (settings : Set
 
 -- the same of a line that is lent no keeper
 abbrev pub ServesLine : {S : Type 0} → StoreKind S → Span S → Lending → (old new : TablesView) → Event → Answer → Type 0
-ServesLine kind t lent old new e a = Serves kind t lent.settings ⊥ (old, new) (asked_of kind t lent old e) a
+ServesLine kind t lent old new e a = Serves kind t lent.settings ⊥ (old, new) (line_asked kind t lent old e) a
 
 -- and of each line, where `rose` says that the keeper's count of faults rose
 abbrev pub ServesEvent : {S : Type 0} → StoreKind S → Span S → Lending → (rose : Type 0) → TablesView × TablesView → Event → Answer → Type 0
-ServesEvent kind t lent rose tables e a = Serves kind t lent.settings (SaveFault kind t lent.settings rose e) tables (asked_of kind t lent tables.0 e) a
+ServesEvent kind t lent rose tables e a = Serves kind t lent.settings (SaveFault kind t lent.settings rose e) tables (line_asked kind t lent tables.0 e) a

@@ -57,8 +57,8 @@ all_kept n beside =
     count_by (nat_eq n) beside.images + all_planned n beside.jobs + all_seen n beside.gc.running + all_watched n beside.watched
 
 -- Each transaction goes on, on a base that is pinned. A number is pinned as often as a transaction, an image, a job or a scan owns it, and
--- once more where it is watched. No number that is pinned, and no image, is of an install to come. No two transactions have one number, and none has the number 0. What a job
--- is to put in a region's place has the form that its kind says.
+-- once more where it is watched. No number that is pinned, and no image, is of an install to come. No two transactions have one number, and
+-- none has the number 0. What a job is to put in a region's place has the form that its kind says.
 pub record AreSound (tables : TablesView) : Type 0 where
   pub begun : 0 < tables.next_tx
   pub each : (c : ℕ) (x : TxnView) → of_client tables.clients c ≡ Some x → IsOpen tables.kv tables.next_tx x

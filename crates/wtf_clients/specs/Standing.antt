@@ -19,7 +19,7 @@ use Rattle.wtf_meta.specs.Maps.{Map, metadata_at}
 use Rattle.wtf_meta.specs.Trees.{LeadsTo, Stands}
 use Rattle.wtf_image.specs.Savable.{AreBefore}
 use Rattle.wtf_replay.specs.Views.{TxnView}
-use Rattle.wtf_replay.specs.Sounds.{IsSound}
+use Rattle.wtf_replay.specs.Sounds.{LogStands}
 use Rattle.wtf_compact.specs.Jobs.{JobView, target_region}
 use Rattle.wtf_compact.specs.Planned.{KeepsRegion}
 use Rattle.wtf_gc.specs.Views.{RunView}
@@ -30,7 +30,7 @@ use Rattle.wtf_clients.specs.Touched.{Touched, above, SinceBase}
 -- The map at the base stands for the tree there, and the map now, in which none of its inodes stands, for the tree now. What has
 -- changed since the base was touched.
 pub record StandsForTxn (size : ℕ) (told : Told) (kv : Store Key Value) (current : Tree) (x : TxnView) (t : Transaction) : Type 0 where
-  pub sound : IsSound size kv told x t.ops
+  pub sound : LogStands size kv told x t.ops
   pub base : t.base ≡ x.at.base
   pub shown : t.shown ≡ x.log.shown
   pub replayed : t.replayed ≡ x.replayed

@@ -26,7 +26,7 @@ abbrev pub NoneMoved : (Key → Bool) → (Key → Bool) → Type 0
 NoneMoved before after = (q : Key) → after q ≡ true → before q ≡ true
 
 -- no key of the file did
-pub record IsStill (moved : Key → Bool) (i : InodeId) : Type 0 where
+pub record IsFileStill (moved : Key → Bool) (i : InodeId) : Type 0 where
   pub inode : moved (Inode i) ≡ false
   pub regions : (r : ℕ) → moved (Region i r) ≡ false
 
@@ -36,12 +36,12 @@ pub record IsStill (moved : Key → Bool) (i : InodeId) : Type 0 where
 pub record Touched (base now : Map) (moved : Key → Bool) (items : List Item) : Type 0 where
   pub nodes : (p : List ℕ) → moved (Path p) ≡ true → Has (NodeOf p) items
   pub lists : (p : List ℕ) → moved (Dir p) ≡ true → Has (NamesOf p) items
-  pub bodies : (p : List ℕ) (i : InodeId) → LeadsTo base p i → Has (BodyOf p) items ⊎ (LeadsTo now p i × IsStill moved i)
+  pub bodies : (p : List ℕ) (i : InodeId) → LeadsTo base p i → Has (BodyOf p) items ⊎ (LeadsTo now p i × IsFileStill moved i)
 
 -- A file that the transaction itself would make stands nowhere in the map now, and no key of it moved.
 pub record OwnStill (tx : ℕ) (now : Map) (moved : Key → Bool) : Type 0 where
   pub none : (i : InodeId) → i.tx.0 ≡ tx → now (Inode i) ≡ None
-  pub still : (i : InodeId) → i.tx.0 ≡ tx → IsStill moved i
+  pub still : (i : InodeId) → i.tx.0 ≡ tx → IsFileStill moved i
 
 -- What holds, for a transaction of this number on this base, of the items that others have touched since.
 pub record SinceBase (kv : Store Key Value) (tx base : ℕ) (items : List Item) : Type 0 where

@@ -33,7 +33,7 @@ use Rattle.wtf_region.specs.Cached.{TrueBut}
 use Rattle.wtf_replay.specs.Views.{TxnView, begun, hand_of}
 use Rattle.wtf_replay.specs.Refusals.{call_refusal, try_refusal, step_refusal}
 use Rattle.wtf_replay.specs.Fits.{IsFit}
-use Rattle.wtf_replay.specs.Sounds.{IsSound, caller_at}
+use Rattle.wtf_replay.specs.Sounds.{LogStands, caller_at}
 use Rattle.wtf_replay.specs.Causes.{fault_answer}
 use Rattle.wtf_replay.specs.Called.{IsCalled}
 use Rattle.wtf_replay.specs.Tried.{IsCommitted, IsRetried, IsFinal, KeepsMaps, KeepsVersions, KeepsPins, commit_from}
@@ -48,7 +48,7 @@ use Rattle.wtf_clients.specs.Dumped.{IsDumpAnswer, dump_bases}
 use Rattle.wtf_clients.specs.Seeing.{Seeing, Recalled}
 
 -- client c has now this transaction, or none; the store of the metadata, and what stands beside them, are what they were
-pub record Keeps (old new : TablesView) (c : ℕ) (now : Option TxnView) : Type 0 where
+pub record SetsClientAlone (old new : TablesView) (c : ℕ) (now : Option TxnView) : Type 0 where
   pub clients : Sets c now old.clients new.clients
   pub kv : new.kv ≡ old.kv
   pub next_tx : new.next_tx ≡ old.next_tx
@@ -57,7 +57,7 @@ pub record Keeps (old new : TablesView) (c : ℕ) (now : Option TxnView) : Type 
 -- a line of client c is refused, and leaves all as it was
 pub record Refuses (old new : TablesView) (c : ℕ) (w : Word) (a : Answer) : Type 0 where
   pub answer : a ≡ answer.Refused w
-  pub keeps : Keeps old new c (of_client old.clients c)
+  pub keeps : SetsClientAlone old new c (of_client old.clients c)
 
 -- a transaction begins at the number, which it pins
 pub record Begins (old new : TablesView) (c : ℕ) (a : Answer) : Type 0 where
@@ -68,7 +68,7 @@ pub record Begins (old new : TablesView) (c : ℕ) (a : Answer) : Type 0 where
   pub next_tx : new.next_tx ≡ old.next_tx + 1
   pub beside : new.beside ≡ old.beside
   pub fit : IsFit new.kv (begun old.next_tx old.kv.number)
-  pub sound : (size : ℕ) (told : Told) → IsSound size new.kv told (begun old.next_tx old.kv.number) []
+  pub sound : (size : ℕ) (told : Told) → LogStands size new.kv told (begun old.next_tx old.kv.number) []
 
 -- The transaction x has ended. It left the store as `mid`, and then undid the pin of its base.
 pub record Ends (old new : TablesView) (mid : Store Key Value) (c : ℕ) (x : TxnView) : Type 0 where
@@ -85,7 +85,7 @@ pub record Commits (old new : TablesView) (c : ℕ) (x : TxnView) (n : ℕ) : Ty
   pub mid : Store Key Value
   pub ended : TxnView
   pub committed : IsCommitted old.kv mid x ended n
-  pub final : (size : ℕ) (told : Told) (ops : List (Op (List ℕ))) → IsSound size old.kv told x ops → IsFinal size told old.kv mid x ops n
+  pub final : (size : ℕ) (told : Told) (ops : List (Op (List ℕ))) → LogStands size old.kv told x ops → IsFinal size told old.kv mid x ops n
   pub ends : Ends old new mid c x
 
 -- an attempt met a key in the way: all calls are to be replayed at the number
@@ -97,7 +97,7 @@ pub record Retries (old new : TablesView) (c : ℕ) (x : TxnView) (b n : ℕ) : 
   pub retried : IsRetried old.kv new.kv x later b n
   pub maps : KeepsMaps old.kv new.kv
   pub fit : IsFit new.kv later
-  pub sound : (size : ℕ) (told : Told) (ops : List (Op (List ℕ))) → IsSound size old.kv told x ops → IsSound size new.kv told later ops
+  pub sound : (size : ℕ) (told : Told) (ops : List (Op (List ℕ))) → LogStands size old.kv told x ops → LogStands size new.kv told later ops
 
 abbrev pub Tries : TablesView → TablesView → ℕ → TxnView → Answer → Type 0
 Tries old new c x (answer.Committed n) = Commits old new c x n
@@ -114,7 +114,7 @@ Drops old new c x a = (a ≡ answer.Okay) × Ends old new old.kv c x
 
 -- A line left all that is seen of the tables: of their store, the number, the maps, the versions of each key and how often each
 -- number is pinned; and what stands beside them.
-pub record Stays (old new : TablesView) (c : ℕ) : Type 0 where
+pub record TablesStay (old new : TablesView) (c : ℕ) : Type 0 where
   pub clients : Sets c (of_client old.clients c) old.clients new.clients
   pub number : new.kv.number ≡ old.kv.number
   pub maps : KeepsMaps old.kv new.kv
@@ -127,7 +127,7 @@ pub record Stays (old new : TablesView) (c : ℕ) : Type 0 where
 pub record Fails (old new : TablesView) (c : ℕ) (a : Answer) : Type 0 where
   pub why : Fault
   pub answer : fault_answer why ≡ Some a
-  pub stays : Stays old new c
+  pub stays : TablesStay old new c
 
 -- The lists that are remembered are true, but where a byte of the slice lies in a range that was punched; and the tables name no byte of these
 -- ranges.
@@ -148,20 +148,20 @@ module _ (z : Seeing) where
   -- The dump of a path shows the bytes of the file on each tree for which the map now stands, or is refused; where it is to
   -- show bytes a fault of the stores may come in their place. It leaves all as it was.
   pub record Dumps (old new : TablesView) (p : List ℕ) (a : Answer) : Type 0 where
-    pub stays : (c : ℕ) → Stays old new c
+    pub stays : (c : ℕ) → TablesStay old new c
     pub answered : (IsDumpAnswer a × DumpReads (metadata_now old.kv) p a) ⊎ ((why : Fault) × (fault_answer why ≡ Some a))
     pub shows : AreTrue z.size z.told z.lists old → (tx k : ℕ) (t : Tree) → Stands z.size z.told tx k (metadata_now old.kv) t
         → (a ≡ or_refusal (dumped t p)) ⊎ MayFailRead z.servers (or_refusal (dumped t p)) a
 
   -- the lists that are remembered are those of their slices; and the stores also tell each byte of a map, those that the lists of its bases
   -- name too
-  abbrev pub Tells : TablesView → Map → Type 0
-  Tells old w = z.telling × AreTrue z.size z.told z.lists old × MapBytes (is_told z.told) (is_listed z.size z.told) w
+  abbrev pub ListsAreTold : TablesView → Map → Type 0
+  ListsAreTold old w = z.telling × AreTrue z.size z.told z.lists old × MapBytes (is_told z.told) (is_listed z.size z.told) w
 
   -- lists that were read are those that their slices decode to, but where a range has a byte of one; if the lists that are remembered
   -- are so, and the bytes of the slices were told
-  abbrev pub Reads : Scope
-  Reads = record {
+  abbrev pub ReadsLists : Scope
+  ReadsLists = record {
     size = z.size;
     known = λ facts. (ranges : List (ℕ × Range)) → z.lists ranges → ListSlices (is_told z.told) any_slice facts → ListSlices
         (are_apart ranges) any_slice facts
@@ -173,16 +173,16 @@ module _ (z : Seeing) where
   pub record Calls (old new : TablesView) (c : ℕ) (x : TxnView) (o : Op (List ℕ)) (a : Answer) : Type 0 where
     pub later_one : TxnView
     pub own : Option Slice
-    pub keeps : Keeps old new c (Some later_one)
+    pub keeps : SetsClientAlone old new c (Some later_one)
     pub called : IsCalled x later_one o own a
     pub stored : z.owns (seen old.kv x.at) x.session o own
     pub facts : List ListFact
     pub recalls : Recalled z facts
-    pub known : Reads.known facts
+    pub known : ReadsLists.known facts
     pub acts : Acts (sight_at z.size old.kv x.tx x.replayed (hand_of x) facts) (data_len o) own o a x.at later_one.at
     pub fit : IsFit old.kv later_one
-    pub sound : Tells old (metadata_at old.kv x.at.base) → (ops : List (Op (List ℕ))) → IsSound z.size old.kv z.told x ops
-        → IsSound z.size old.kv z.later later_one (ops ++ o ∷ [])
+    pub sound : ListsAreTold old (metadata_at old.kv x.at.base) → (ops : List (Op (List ℕ))) → LogStands z.size old.kv z.told x ops
+        → LogStands z.size old.kv z.later later_one (ops ++ o ∷ [])
 
   -- or a fault of the stores came in place of the answer that is due
   pub record CallFails (old new : TablesView) (c : ℕ) (x : TxnView) (o : Op (List ℕ)) (a : Answer) : Type 0 where
@@ -193,25 +193,25 @@ module _ (z : Seeing) where
   -- one more call was replayed, and answered what was shown; the lists that it read are remembered
   pub record Replays (old new : TablesView) (c : ℕ) (x : TxnView) (i : ℕ) : Type 0 where
     pub later_one : TxnView
-    pub keeps : Keeps old new c (Some later_one)
+    pub keeps : SetsClientAlone old new c (Some later_one)
     pub replayed : IsReplayed x later_one i
-    pub acts : Redoes Reads old.kv x x.replayed (hand_of x) (hand_of later_one)
+    pub acts : Redoes ReadsLists old.kv x x.replayed (hand_of x) (hand_of later_one)
     pub recalls : Recalled z acts.lists
     pub fit : IsFit old.kv later_one
-    pub sound : Tells old (metadata_at old.kv x.at.base) → (ops : List (Op (List ℕ))) → IsSound z.size old.kv z.told x ops
-        → IsSound z.size old.kv z.later later_one ops
+    pub sound : ListsAreTold old (metadata_at old.kv x.at.base) → (ops : List (Op (List ℕ))) → LogStands z.size old.kv z.told x ops
+        → LogStands z.size old.kv z.later later_one ops
 
   -- the next call answered otherwise at the base, and the transaction has ended
   pub record Aborts (old new : TablesView) (c : ℕ) (x : TxnView) (i : ℕ) (a : Answer) : Type 0 where
     pub index : i ≡ x.replayed + 1
     pub ends : Ends old new old.kv c x
-    pub deviates : Tells old (metadata_at old.kv x.at.base) → (ops : List (Op (List ℕ))) → IsSound z.size old.kv z.told x ops
+    pub deviates : ListsAreTold old (metadata_at old.kv x.at.base) → (ops : List (Op (List ℕ))) → LogStands z.size old.kv z.told x ops
         → DeviatesOn (metadata_at old.kv x.at.base) z.size z.told x ops i a
 
   -- bytes or lists of the next call were not read, which would not be refused
   pub record StepFails (old new : TablesView) (c : ℕ) (x : TxnView) (a : Answer) : Type 0 where
     pub fails : Fails old new c a
-    pub may : (ops : List (Op (List ℕ))) → IsSound z.size old.kv z.told x ops → (t : Tree) → Stands z.size z.told x.tx 0 (metadata_at old.kv x.at.base) t
+    pub may : (ops : List (Op (List ℕ))) → LogStands z.size old.kv z.told x ops → (t : Tree) → Stands z.size z.told x.tx 0 (metadata_at old.kv x.at.base) t
         → IsDone (slice_get (answers_of (cap_for (caller_at z.size x.tx 0)) t ops) x.replayed) × IsReadFault z.servers a
 
   -- the calls have run on the map now, by the attempt or by a whole replay, and nothing but what they did was installed
@@ -219,9 +219,10 @@ module _ (z : Seeing) where
     pub mid : Store Key Value
     pub next : n ≡ old.kv.number + 1
     pub number : mid.number ≡ n
-    pub installs : Installs Reads old.kv mid (commit_from old.kv x) n
+    pub installs : Installs ReadsLists old.kv mid (commit_from old.kv x) n
     pub ends : Ends old new mid c x
-    pub final : Tells old (metadata_at old.kv x.at.base) → Tells old (metadata_now old.kv) → (ops : List (Op (List ℕ))) → IsSound z.size old.kv z.told x ops
+    pub final : ListsAreTold old (metadata_at old.kv x.at.base) → ListsAreTold old (metadata_now old.kv) → (ops : List (Op (List ℕ)))
+        → LogStands z.size old.kv z.told x ops
         → IsFinal z.size z.later old.kv mid x ops n
 
   -- run on the map now, the calls first answer otherwise than was shown at call i, and there a
@@ -230,19 +231,21 @@ module _ (z : Seeing) where
     pub number : mid.number ≡ old.kv.number
     pub versions : KeepsVersions old.kv mid
     pub ends : Ends old new mid c x
-    pub deviates : Tells old (metadata_at old.kv x.at.base) → Tells old (metadata_now old.kv) → (ops : List (Op (List ℕ))) → IsSound z.size old.kv z.told x ops
+    pub deviates : ListsAreTold old (metadata_at old.kv x.at.base) → ListsAreTold old (metadata_now old.kv) → (ops : List (Op (List ℕ)))
+        → LogStands z.size old.kv z.told x ops
         → DeviatesOn (metadata_now old.kv) z.size z.told x ops i a
 
   -- bytes or lists of a call that was replayed were not read
   pub record CommitFails (old new : TablesView) (c : ℕ) (x : TxnView) (a : Answer) : Type 0 where
     pub fails : Fails old new c a
-    pub may : Tells old (metadata_at old.kv x.at.base) → Tells old (metadata_now old.kv) → (ops : List (Op (List ℕ))) → IsSound z.size old.kv z.told x ops
+    pub may : ListsAreTold old (metadata_at old.kv x.at.base) → ListsAreTold old (metadata_now old.kv) → (ops : List (Op (List ℕ)))
+        → LogStands z.size old.kv z.told x ops
         → (t : Tree) → Stands z.size z.told x.tx 0 (metadata_now old.kv) t → IsReadFault z.servers a
 
-  abbrev pub Steps : TablesView → TablesView → ℕ → TxnView → Answer → Type 0
-  Steps old new c x (answer.Replayed i) = Replays old new c x i
-  Steps old new c x (Aborted' i box a) = Aborts old new c x i a
-  Steps old new c x a = StepFails old new c x a
+  abbrev pub StepTurn : TablesView → TablesView → ℕ → TxnView → Answer → Type 0
+  StepTurn old new c x (answer.Replayed i) = Replays old new c x i
+  StepTurn old new c x (Aborted' i box a) = Aborts old new c x i a
+  StepTurn old new c x a = StepFails old new c x a
 
   -- a commit never asks for another try
   abbrev pub Finals : TablesView → TablesView → ℕ → TxnView → Answer → Type 0
@@ -259,7 +262,7 @@ module _ (z : Seeing) where
   abbrev pub TxnTurn : TablesView → TablesView → ℕ → TxnView → Verb → Answer → Type 0
   TxnTurn old new c x verb.Begin a = Refuses old new c InTx a
   TxnTurn old new c x verb.Try a = TryTurn old new c x a
-  TxnTurn old new c x verb.Step a = MatchOption (step_refusal x) (Steps old new c x a) (λ w. Refuses old new c w a)
+  TxnTurn old new c x verb.Step a = MatchOption (step_refusal x) (StepTurn old new c x a) (λ w. Refuses old new c w a)
   TxnTurn old new c x verb.Commit a = Finals old new c x a
   TxnTurn old new c x verb.Abort a = Drops old new c x a
   TxnTurn old new c x (verb.Call o) a = MatchOption (call_refusal x) (Calls old new c x o a ⊎ CallFails old new c x o a) (λ w. Refuses old new c w a)

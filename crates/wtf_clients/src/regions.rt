@@ -4,7 +4,7 @@ ghost use Rattle.std.specs.Prelude.{◌≡◌, IfOk};
 ghost use Rattle.wtf_meta.specs.Files.{end_of};
 ghost use Rattle.wtf_meta.specs.FileEdits.{last_of};
 ghost use Rattle.wtf_index.specs.Checks.{stands_at};
-ghost use Rattle.wtf_compact.specs.Jobs.{region_at};
+ghost use Rattle.wtf_compact.specs.Jobs.{region_in_map};
 ghost use Rattle.wtf_clients.specs.Views.{metadata_now};
 ghost use Rattle.wtf_clients.specs.Planning.{has_region, refusal_at};
 
@@ -44,7 +44,7 @@ fn last_region(kv: &Kv<Key, Value>, inode: InodeId) -> u16
 
 /// Where a region of a file ends now.
 fn region_end(kv: &Kv<Key, Value>, inode: InodeId, region: u16) -> u32
-    ensures { result ≡ end_of (region_at (metadata_now kv.now) inode region) }
+    ensures { result ≡ end_of (region_in_map (metadata_now kv.now) inode region) }
 {
     let key = Key::Region(inode, region);
     match kv.read_at(kv.number(), &key) {

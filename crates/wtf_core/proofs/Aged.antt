@@ -37,17 +37,17 @@ kinds_of size told tx k w t st q v is = by q is
     body : (i : InodeId) (o : Option TreeNode) → NodeAt size told w (Some (value.Node (FileNode i))) o → HasFile i w
     body i None h = absurd h
     body i (Some Dir) h = absurd h
-    body i (Some (File bytes)) h = h.has
+    body i (Some (File paths bytes)) h = h.body.has
 
     no_node : (o : Option TreeNode) → NodeAt size told w (Some (value.Region v)) o → ⊥
     no_node None h = h
     no_node (Some Dir) h = h
-    no_node (Some (File bytes)) h = h
+    no_node (Some (File paths bytes)) h = h
 
     no_names : (p : List ℕ) (o : Option TreeNode) → NamesAt t p (Some (value.Region v)) o → ⊥
     no_names p None h = h
     no_names p (Some Dir) h = h
-    no_names p (Some (File bytes)) h = h
+    no_names p (Some (File paths bytes)) h = h
 
     by : (r : Key) → w r ≡ Some (value.Region v) → is_region_key r ≡ true
     by (Path p) there = absurd (no_node (get t p) (subst (λ o. NodeAt size told w o (get t p)) there (st.nodes p)))

@@ -21,13 +21,13 @@ use Rattle.wtf_region.specs.Cached.{Remembered}
 use Rattle.wtf_replay.specs.Views.{TxnView}
 use Rattle.wtf_replay.specs.Refusals.{try_refusal}
 use Rattle.wtf_compact.specs.Jobs.{JobView}
-use Rattle.wtf_compact.specs.Putting.{IsPut}
+use Rattle.wtf_compact.specs.Putting.{IsJobPut}
 use Rattle.wtf_clients.specs.Views.{TablesView, of_client, of_label}
 use Rattle.wtf_clients.specs.JobTurns.{RefusesJob, Puts, PutTurn, DropsJob, DropTurn}
 use Rattle.wtf_core.specs.Views.{CoreView}
 use Rattle.wtf_clients.specs.Named.{TablesBytes, any_byte, no_slice, has_copies}
 use Rattle.wtf_clients.specs.Outcomes.{Load, no_load, AddsBytes, load_of}
-use Rattle.wtf_clients.specs.Asked.{Lending, asked_of}
+use Rattle.wtf_clients.specs.Asked.{Lending, line_asked}
 use Rattle.wtf_clients.specs.Seeing.{Seeing}
 use Rattle.wtf_clients.specs.Serves.{NamesTables, IsPlain, AreBased, AreFull, ServesLine}
 use Rattle.wtf_clients.specs.Turns.{Refuses, Tries, LoneTurn, TxnTurn, ClientTurn}
@@ -118,7 +118,7 @@ module _ {S : Type 0} (kind : StoreKind S) (t : Span S) (old new : CoreView) (a 
 pub put_plain : (old new : TablesView) (j : ℕ) (a : Answer) → PutTurn old new j a → IsPlain a
 put_plain old new j a h = by (of_label old.beside.jobs j) h
   where
-    is_put : (x : JobView) (b : Answer) → IsPut x old.kv new.kv b → IsPlain b
+    is_put : (x : JobView) (b : Answer) → IsJobPut x old.kv new.kv b → IsPlain b
     is_put x (answer.Installed n) put = tt
     is_put x (answer.Stale b n) put = tt
     is_put x b put = absurd put
@@ -151,6 +151,6 @@ module _ {S : Type 0} (kind : StoreKind S) (down : ℕ → Bool) (shelf : List S
     adds = subst (λ (l : Load). AddsBytes kind (span down shelf shelf) lent.settings l a) (sym none)
         (none_added kind (span down shelf shelf) lent.settings a (reads_nothing kind down shelf).lengths);
     caused = plain_caused kind (span down shelf shelf) lent.settings ⊥ (AreBased old) (AreFull lent.settings old) (load_of e) a plain;
-    placed = none_placed kind (span down shelf shelf) lent.settings (asked_of kind (span down shelf shelf) lent old e) a none;
-    failed = plain_failed (asked_of kind (span down shelf shelf) lent old e).fails a plain;
+    placed = none_placed kind (span down shelf shelf) lent.settings (line_asked kind (span down shelf shelf) lent old e) a none;
+    failed = plain_failed (line_asked kind (span down shelf shelf) lent old e).fails a plain;
   }

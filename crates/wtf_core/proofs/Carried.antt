@@ -30,7 +30,7 @@ use Rattle.wtf_meta.specs.Maps.{Map, metadata_at}
 use Rattle.wtf_gc.specs.Named.{list_has, own_has, under_has, region_has}
 use Rattle.wtf_gc.specs.Views.{ScanView, RunView, length_in}
 use Rattle.wtf_core.specs.Quiet.{MapNames, KeptNames, PartsName, HasScanned, HasBegun, Stage, Saved, Scans, Scanned, ScansAgain, ScannedTwice}
-use Rattle.wtf_core.specs.Quiet.{IsKept, IsScanned, IsBegun, HasScans}
+use Rattle.wtf_core.specs.Quiet.{IsKeptByte, IsScanned, IsBegun, HasScans}
 use Rattle.wtf_core.specs.Views.{CoreView}
 use Rattle.wtf_core.proofs.Idling.{kept_same}
 
@@ -156,10 +156,10 @@ module _ {S : Type 0} (kind : StoreKind S) (before after : List S) (old new : Co
   size_on : (P : ℕ → Type 0) → P old.settings.region → P new.settings.region
   size_on P h = subst (λ (s : Settings). P s.region) (sym settings) h
 
-  pub names_later : (p : Place) → IsKept kind before old p → IsKept kind after new p
+  pub names_later : (p : Place) → IsKeptByte kind before old p → IsKeptByte kind after new p
   names_later p h = size_on (λ size. KeptNames size later now p) (kept_on old.settings.region told later was now reads same p h)
 
-  pub names_before : (p : Place) → IsKept kind after new p → IsKept kind before old p
+  pub names_before : (p : Place) → IsKeptByte kind after new p → IsKeptByte kind before old p
   names_before p h =
       kept_back old.settings.region told later was now reads same p (subst (λ (s : Settings). KeptNames s.region later now p) settings h)
 

@@ -1,7 +1,7 @@
 -- Attempts, replayed steps, commits and ends keep what the tables stand for.
 -- NSDI 2016, sections 2.6 and 2.7.
-use Rattle.std.proofs.Common.{◌≡◌, ◌≢◌, suc, ◌≤◌, ◌<◌, ℕ, ◌+◌, ◌-◌, nat_eq, Bool, true, false, List, [], length, take, None, Some, refl, sym, ap, ◌∙◌, subst}
-use Rattle.std.proofs.Common.{inr, arith, slice_get}
+use Rattle.std.proofs.Common.{◌≡◌, ◌≢◌, suc, ◌≤◌, ◌<◌, ℕ, ◌+◌, ◌-◌, Bool, true, false, List, [], length, take, None, Some, refl, sym, ap, ◌∙◌, subst}
+use Rattle.std.proofs.Common.{arith, slice_get}
 use Rattle.std.proofs.Math.Seq.{take-length}
 use Rattle.std.proofs.lemmas.Bool.{eqb-true}
 use Rattle.std.specs.Prelude.{if◌then◌else◌}
@@ -33,24 +33,25 @@ use Rattle.wtf_meta.specs.Trees.{Stands}
 use Rattle.wtf_meta.proofs.Telling.{TellsOn}
 use Rattle.wtf_meta.specs.Calls.{cap_for}
 use Rattle.wtf_meta.specs.Feet.{Feet}
-use Rattle.wtf_replay.specs.Views.{TxnView, is_live}
+use Rattle.wtf_replay.specs.Views.{TxnView, is_txn_live}
 use Rattle.wtf_replay.specs.Fits.{IsFit}
 use Rattle.wtf_replay.specs.Refusals.{try_refusal, step_refusal}
-use Rattle.wtf_replay.specs.Sounds.{IsSound, tells_slice, caller_at}
+use Rattle.wtf_replay.specs.Sounds.{LogStands, tells_slice, caller_at}
 use Rattle.wtf_replay.specs.Tried.{IsFinal, KeepsVersions}
 use Rattle.wtf_replay.proofs.Sounding.{sound_later}
 use Rattle.wtf_replay.proofs.Trying.{final_ran}
 use Rattle.wtf_replay.proofs.Deviating.{at_base}
 use Rattle.wtf_clients.specs.Views.{TablesView, of_client, metadata_now}
 use Rattle.wtf_clients.specs.Seeing.{Seeing}
-use Rattle.wtf_clients.specs.Sounds.{owned, IsOpen, AreSound}
+use Rattle.wtf_clients.specs.Sounds.{AreSound}
 use Rattle.wtf_clients.specs.Touched.{SinceBase}
 use Rattle.wtf_clients.specs.Standing.{StandsForTxn, StandsForSlot, TablesStand}
-use Rattle.wtf_clients.specs.Turns.{AreTrue, Keeps, Ends, Commits, Retries, Tries, Replays, Aborts, StepFails, Finishes, GivesUp, Steps, Finals}
+use Rattle.wtf_clients.specs.Turns.{AreTrue, SetsClientAlone, Ends, Commits, Retries, Tries, Replays, Aborts, StepFails, Finishes, GivesUp, StepTurn, Finals}
 use Rattle.wtf_clients.proofs.Images.{before_same, before_own}
 use Rattle.wtf_clients.proofs.Later.{Stands-later}
 use Rattle.wtf_clients.proofs.SinceLaws.{since_none, touched_installed, since_installed, retry_met}
 use Rattle.wtf_clients.proofs.Frames.{Turned, stands_turned, stands_kept}
+use Rattle.wtf_clients.proofs.Soundness.{ends_turned, retry_turned}
 use Rattle.wtf_clients.proofs.Staying.{stays_stand, goes_turned}
 use Rattle.wtf_core.proofs.Machines.{gone_here, gone_there, cap_is, answer_shown}
 
@@ -66,14 +67,14 @@ txn_in size told old m c x t st here there =
 
 -- an attempt is not refused where all calls are done
 try_live : (x : TxnView) → try_refusal x ≡ None → x.replayed ≡ length x.log.ops
-try_live x asked = eqb-true x.replayed (length x.log.ops) (by (is_live x) asked)
+try_live x asked = eqb-true x.replayed (length x.log.ops) (by (is_txn_live x) asked)
   where
     by : (b : Bool) → (if b then None else Some Replaying) ≡ None → b ≡ true
     by true h = refl
     by false h = absurd (cc)
 
 -- where they are, the first of the calls are all of them
-pub done_all : (size : ℕ) (kv : Store Key Value) (told : Told) (x : TxnView) (ops : List (Op (List ℕ))) → IsSound size kv told x ops
+pub done_all : (size : ℕ) (kv : Store Key Value) (told : Told) (x : TxnView) (ops : List (Op (List ℕ))) → LogStands size kv told x ops
     → x.replayed ≡ length x.log.ops → take x.replayed ops ≡ ops
 done_all size kv told x ops sound live = ap (λ n. take n ops) (live ∙ OpsStandFor-length (tells_slice told) x.log.ops ops sound.ops_are) ∙ take-length ops
 
@@ -107,21 +108,8 @@ module _ (old new : TablesView) (mid : Store Key Value) (c : ℕ) (x : TxnView) 
   ends_now = ap (λ n. metadata_at new.kv n) ends_number ∙ ends_map mid.number
 
   -- a transaction ends, with its pin
-  pub ends_turned : Turned old new c None
-  ends_turned = record {
-    sets = ends.clients;
-    later = omega (arith, up, ends_number);
-    maps = λ n le. ends_map n ∙ ends.maps n le;
-    more = omega (arith, ends.next_tx);
-    pins = λ n.
-        let was : owned n (of_client old.clients c) ≡ owned n (Some x) = ap (owned n) here in
-        let kept = ends.pins n in
-        let fewer = ends.unpinned n in
-        omega (arith, was, kept, fewer);
-    beside = ends.beside;
-    own = λ y e. absurd (cc);
-    whose = λ y e. absurd (cc);
-  }
+  end_turned : Turned old new c None
+  end_turned = ends_turned old new mid c x sound here up ends
 
   -- and each key has the versions that it left
   ends_versions : KeepsVersions mid new.kv
@@ -131,7 +119,7 @@ module _ (old new : TablesView) (mid : Store Key Value) (c : ℕ) (x : TxnView) 
   pub leaves_stand : (size : ℕ) (told later : Told) (m : Machine) → TablesStand size told old m → TellsOn told later → mid.number ≡ old.kv.number
       → KeepsVersions old.kv mid → TablesStand size later new (ended m c)
   leaves_stand size told later m st on same versions =
-      stands_kept size told later old new m (ended m c) c None sound st on ends_turned (ends_number ∙ same) (λ q. ends_versions q ∙ versions q)
+      stands_kept size told later old new m (ended m c) c None sound st on end_turned (ends_number ∙ same) (λ q. ends_versions q ∙ versions q)
       (λ d ne. gone_there m.transactions c d ne) refl refl refl refl
       (subst (λ o. StandsForSlot size later new.kv m.now None o) (sym (gone_here m.transactions c)) tt)
 
@@ -157,19 +145,19 @@ module _ (old new : TablesView) (mid : Store Key Value) (c : ℕ) (x : TxnView) 
       let gone : get (with_each (touch wrote) (remove m.transactions c)) c ≡ None =
       get-each_none (touch wrote) (remove m.transactions c) c (gone_here m.transactions c) in (
         (final.next ∙ ap (λ k. k + 1) (sym st.number), ap (λ k. answers_of k m.now t.ops) cap ∙ ran.answers ∙ sym txn.shown),
-        stands_turned size told later old new m (installed m c t n) c None wrote sound st on ends_turned
+        stands_turned size told later old new m (installed m c t n) c None wrote sound st on end_turned
             (λ d ne. get-each (touch wrote) (remove m.transactions c) d ∙ ap (option_map (touch wrote)) (gone_there m.transactions c d ne))
             (λ d y items ne its since. since_installed x.tx old.kv new.kv final.at.reads final.at.changes n read wrote feet ran.own txn.now.regions
             stands.regions map
             (λ q. ends_versions q ∙ final.versions q) y.tx y.at.base items
             (λ same. ne (sound.apart d c y x its here same))
-            (ends_turned.maps y.at.base (sound.each d y its).based) since)
+            (end_turned.maps y.at.base (sound.each d y its).based) since)
             (λ l. get-each (touch_job wrote) m.jobs l)
             (λ base items based was. touched_installed x.tx old.kv new.kv final.at.reads final.at.changes n read wrote feet ran.own txn.now.regions
             stands.regions map
-            (λ q. ends_versions q ∙ final.versions q) base items (ends_turned.maps base based) was)
+            (λ q. ends_versions q ∙ final.versions q) base items (end_turned.maps base based) was)
             (sym (ends_number ∙ final.number)) refl
-            (before_same old.next_tx new.next_tx changed (metadata_now new.kv) map ends_turned.more
+            (before_same old.next_tx new.next_tx changed (metadata_now new.kv) map end_turned.more
             (before_own x.tx old.next_tx (metadata_now old.kv) changed (sound.each c x here).older ran.own st.before))
             (subst (λ o. StandsForSlot size later new.kv now None o) (sym gone) tt)
             (λ tx other was.
@@ -179,12 +167,13 @@ module _ (old new : TablesView) (mid : Store Key Value) (c : ℕ) (x : TxnView) 
       )
 
 -- ---- a transaction that goes on at its base
-module _ (old new : TablesView) (c : ℕ) (x y : TxnView) (sound : AreSound old) (here : of_client old.clients c ≡ Some x) (keeps : Keeps old new c (Some y))
+module _ (old new : TablesView) (c : ℕ) (x y : TxnView) (sound : AreSound old) (here : of_client old.clients c ≡ Some x)
+    (keeps : SetsClientAlone old new c (Some y))
     (tx : y.tx ≡ x.tx) (base : y.at.base ≡ x.at.base) (going : y.ended ≡ x.ended) (fit : IsFit old.kv y) where
   -- the tables stand for the machine with this transaction, where that has the base and the tree that it had
   pub goes_stand : (size : ℕ) (told later : Told) (m : Machine) (t t2 : Transaction) → TablesStand size told old m → TellsOn told later
       → get m.transactions c ≡ Some t
-      → IsSound size old.kv later y t2.ops → t2.base ≡ t.base → t2.tree ≡ t.tree → t2.touched ≡ t.touched → t2.shown ≡ y.log.shown → t2.replayed ≡ y.replayed
+      → LogStands size old.kv later y t2.ops → t2.base ≡ t.base → t2.tree ≡ t.tree → t2.touched ≡ t.touched → t2.shown ≡ y.log.shown → t2.replayed ≡ y.replayed
       → TablesStand size later new (with_transaction m c t2)
   goes_stand size told later m t t2 st on there run base2 tree2 touched2 shown2 replayed2 =
       let txn = txn_in size told old m c x t st here there in
@@ -231,39 +220,6 @@ module _ (old new : TablesView) (c : ℕ) (x : TxnView) (b n : ℕ) (sound : Are
   retry_map : metadata_at new.kv again.at.base ≡ metadata_now old.kv
   retry_map = ap (λ k. metadata_at new.kv k) (retry_base ∙ turn.retried.number_is) ∙ turn.maps old.kv.number (omega arith)
 
-  -- it is open at the number
-  retry_open : IsOpen new.kv new.next_tx again
-  retry_open =
-      let was : IsOpen old.kv old.next_tx x = sound.each c x here in
-      let number = turn.retried.number in
-      let number_is = turn.retried.number_is in
-      let next = turn.next_tx in
-      let older = was.older in
-      record {
-        going = ap (λ (v : TxnView). v.ended) turn.retried.is ∙ was.going;
-        fit = turn.fit;
-        based = omega (arith, retry_base, number, number_is);
-        older = omega (arith, retry_tx, next, older);
-      }
-
-  -- the pin of its base has moved to the number
-  retry_turned : Turned old new c (Some again)
-  retry_turned = record {
-    sets = turn.clients;
-    later = let number = turn.retried.number in omega (arith, number);
-    maps = turn.maps;
-    more = let next = turn.next_tx in omega (arith, next);
-    pins = λ k.
-        let was : owned k (of_client old.clients c) ≡ (if nat_eq k b then 1 else 0) = ap (owned k) here
-        ∙ ap (λ j. if nat_eq k j then 1 else 0) (sym turn.retried.base_is) in
-        let is : owned k (Some again) ≡ (if nat_eq k n then 1 else 0) = ap (λ j. if nat_eq k j then 1 else 0) retry_base in
-        let moved = turn.retried.pins k in
-        omega (arith, was, is, moved);
-    beside = turn.beside;
-    own = λ z e. let hit : again ≡ z = cc in subst (λ v. IsOpen new.kv new.next_tx v) hit retry_open;
-    whose = λ z e. let hit : again ≡ z = cc in inr (x, here, ap (λ (v : TxnView). v.tx) (sym hit) ∙ retry_tx);
-  }
-
   -- nothing was touched since
   retry_since : (none : (i : InodeId) → i.tx.0 ≡ x.tx → metadata_now old.kv (Inode i) ≡ None) → SinceBase new.kv again.tx again.at.base []
   retry_since none =
@@ -297,7 +253,8 @@ module _ (old new : TablesView) (c : ℕ) (x : TxnView) (b n : ℕ) (sound : Are
           (turn.retried.base_is ∙ sym txn.base, turn.retried.number_is ∙ sym st.number, turn.retried.later),
           subst (λ k. meets t.touched (reads_of k t.tree t.ops) ≡ true) (sym (cap_is m size region)) met,
         ),
-        stands_kept size told later old new m (with_transaction m c t2) c (Some again) sound st on retry_turned turn.retried.number turn.retried.versions
+        stands_kept size told later old new m (with_transaction m c t2) c (Some again) sound st on (retry_turned old new c x b n sound here turn)
+            turn.retried.number turn.retried.versions
             (λ d ne. get-number_other m.transactions c t2 d ne) refl refl refl refl
             (subst (λ o. StandsForSlot size later new.kv m.now (Some again) o) (sym (get-number_same m.transactions c t2)) stands),
       )
@@ -341,7 +298,7 @@ module _ (z : Seeing) (old new : TablesView) (c : ℕ) (x : TxnView) (i : ℕ)
 
   -- on the tree at the base the next call answers what was shown
   replay_may : (m : Machine) (t : Transaction) → m.settings.region ≡ z.size → StandsForTxn z.size z.told old.kv m.now x t → TellsOn z.told z.later
-      → IsSound z.size old.kv z.later onward t.ops
+      → LogStands z.size old.kv z.later onward t.ops
       → MayStep m t (answer.Replayed i)
   replay_may m t region txn on run =
       let tree : Stands z.size z.told onward.tx 0 (metadata_at old.kv onward.at.base) t.tree =
@@ -368,7 +325,7 @@ module _ (z : Seeing) (old new : TablesView) (c : ℕ) (x : TxnView) (i : ℕ)
       → MayStep m t (answer.Replayed i) × TablesStand z.size z.later new (stepped m c t (answer.Replayed i))
   replay_stand m t region st on there telling =
       let txn = txn_in z.size z.told old m c x t st here there in
-      let run : IsSound z.size old.kv z.later onward t.ops = turn.sound (telling.0, telling.1, txn.tree.bytes) t.ops txn.sound in (
+      let run : LogStands z.size old.kv z.later onward t.ops = turn.sound (telling.0, telling.1, txn.tree.bytes) t.ops txn.sound in (
         replay_may m t region txn on run,
         goes_stand old new c x onward sound here turn.keeps replay_tx turn.replayed.base replay_going turn.fit z.size z.told z.later m t
             (record t { replayed = i }) st on there run
@@ -410,7 +367,7 @@ pub steps_stand : (z : Seeing) (old new : TablesView) (m : Machine) (c : ℕ) (x
     (t : Transaction) (a : Answer)
     → AreSound old → m.settings.region ≡ z.size → m.settings.servers ≡ z.servers → TablesStand z.size z.told old m → TellsOn z.told z.later
     → of_client old.clients c ≡ Some x → get m.transactions c ≡ Some t → step_refusal x ≡ None → z.telling × AreTrue z.size z.told z.lists old
-    → Steps z old new c x a → MayStep m t a × TablesStand z.size z.later new (stepped m c t a)
+    → StepTurn z old new c x a → MayStep m t a × TablesStand z.size z.later new (stepped m c t a)
 steps_stand z old new m c x t (answer.Replayed i) sound region count st on here there asked telling turn = replay_stand
     z old new c x i sound here turn m t region st on there telling
 steps_stand z old new m c x t (Aborted' i box a) sound region count st on here there asked telling turn = (

@@ -45,8 +45,8 @@ same_there {S} kind shelf settings p below = ap (λ (s : Option S). told_by kind
 tells_inside : {S : Type 0} (kind : StoreKind S) (shelf : List S) (settings : Settings)
     → TellsWhere (is_place_inside kind shelf settings) (byte_at kind shelf) (byte_at kind (stores_of settings shelf))
 tells_inside kind shelf settings p byte inside is =
-    let both = and_parts (nat_lt p.server settings.servers) (nat_lt p.file 8 && nat_lt p.at (size_in kind (slice_get shelf p.server) p.file)) inside in
-    same_there kind shelf settings p (ltb-true p.server settings.servers both.0) ∙ is
+    let both = and_parts (nat_lt p.server settings.servers) (nat_lt p.file 8 && nat_lt p.at (size_in kind (slice_get shelf p.server) p.file)) inside
+    in same_there kind shelf settings p (ltb-true p.server settings.servers both.0) ∙ is
 
 -- where stores go on, so do they
 pub first_later : {S : Type 0} {kind : StoreKind S} → KindLaws kind → (settings : Settings) {old new : List S} → EachFollows kind old new []

@@ -15,7 +15,7 @@ use Rattle.wtf_model.specs.declared.answer.Answer.{Answer}
 use Rattle.wtf_model.specs.declared.event.Event.TheVariants as event
 use Rattle.wtf_meta.specs.Contents.{Told}
 use Rattle.wtf_meta.specs.Maps.{Map, metadata_at}
-use Rattle.wtf_gc.specs.Extents.{covers}
+use Rattle.wtf_gc.specs.Extents.{extents_cover}
 use Rattle.wtf_gc.specs.Frees.{AreGarbage, CountsFreed, lie_in}
 use Rattle.wtf_gc.specs.Views.{ScanView, GcView, mark_of, is_garbage, length_in}
 use Rattle.wtf_clients.specs.Safe.{NamesNone}
@@ -23,7 +23,7 @@ use Rattle.wtf_clients.specs.ScanTurns.{KeepsStore}
 use Rattle.wtf_clients.specs.Sounds.{AreSound}
 use Rattle.wtf_clients.specs.Views.{BesideView, metadata_now}
 use Rattle.wtf_clients.proofs.KeptNames.{rests_alone}
-use Rattle.wtf_core.specs.Quiet.{MapNames, IsAtRest, ScannedTwice, IsKept, IsAtStage, FoundOnlyKept, LeavesKept, HasCollected}
+use Rattle.wtf_core.specs.Quiet.{MapNames, IsAtRest, ScannedTwice, IsKeptByte, IsAtStage, FoundOnlyKept, LeavesKept, HasCollected}
 use Rattle.wtf_core.specs.Views.{CoreView}
 use Rattle.wtf_core.proofs.Carried.{AllSameBases, ReadsSame, reads_same, size_same, length_same, names_later, names_before}
 use Rattle.wtf_core.proofs.Unnamed.{map_none}
@@ -64,46 +64,49 @@ module _ {S : Type 0} (kind : StoreKind S) (t : Span S) (old new : CoreView) (se
     pub frees_move : (k : ℕ) (a : Answer) → Moves kind t old new (event.Collect k) a
     frees_move k a = steady kind t old new settings many lengths same (event.Collect k) a (λ s next is. some_is s next is) free_same free_rest
         (record { running = scans.running; older = scans.older; newer = scans.newer })
-        (λ p here. scans.freed p ∙ or_left (covers gc.freed p) (lie_in counted p) here)
+        (λ p here. scans.freed p ∙ or_left (extents_cover gc.freed p) (lie_in counted p) here)
 
-    kept_later : (p : Place) → IsKept kind t.before old p → IsKept kind t.after new p
+    kept_later : (p : Place) → IsKeptByte kind t.before old p → IsKeptByte kind t.after new p
     kept_later = names_later kind t.before t.after old new settings long_on free_same same
 
-    kept_before : (p : Place) → IsKept kind t.after new p → IsKept kind t.before old p
+    kept_before : (p : Place) → IsKeptByte kind t.after new p → IsKeptByte kind t.before old p
     kept_before = names_before kind t.before t.after old new settings long_on free_same same
 
     -- all of it is
     module _ (sound : AreSound old.tables) (k : ℕ) (ranges : List (ℕ × Range)) (are : AreGarbage gc k ranges)
-        (counts : (p : Place) → covers new.tables.beside.gc.freed p ≡ (covers gc.freed p || lie_in ranges p))
-        (unnamed : NamesNone old.settings.region told (is_garbage gc) old.tables) (gone : NamesNone old.settings.region told (covers gc.freed) old.tables) where
+        (counts : (p : Place) → extents_cover new.tables.beside.gc.freed p ≡ (extents_cover gc.freed p || lie_in ranges p))
+        (unnamed : NamesNone old.settings.region told (is_garbage gc) old.tables)
+        (gone : NamesNone old.settings.region told (extents_cover gc.freed) old.tables) where
       three_false : (a b c : Bool) → a ≡ false → b ≡ false → c ≡ false → not (a || (b || c)) ≡ true
       three_false a b c one two three = ap (λ (x : Bool). not (x || (b || c))) one ∙ ap (λ (x : Bool). not (x || c)) two ∙ ap not three
 
       -- a byte below the marks that no scan has found was freed before, or is garbage
       left_by : FoundOnlyKept kind t.before old → (p : Place) → p.server ≡ k → nat_lt p.at (mark_of gc.older p.server p.file) ≡ true → (a b c : Bool)
-          → covers gc.older.found p ≡ a → covers gc.newer.found p ≡ b → covers gc.freed p ≡ c
-          → (covers new.tables.beside.gc.freed p ≡ true) ⊎ IsKept kind t.before old p
+          → extents_cover gc.older.found p ≡ a → extents_cover gc.newer.found p ≡ b → extents_cover gc.freed p ≡ c
+          → (extents_cover new.tables.beside.gc.freed p ≡ true) ⊎ IsKeptByte kind t.before old p
       left_by found p on below true b c one two three = inr (found.older p one)
       left_by found p on below false true c one two three = inr (found.newer p two)
-      left_by found p on below false false true one two three = inl (counts p ∙ or_left (covers gc.freed p) (lie_in ranges p) three)
+      left_by found p on below false false true one two three = inl (counts p ∙ or_left (extents_cover gc.freed p) (lie_in ranges p) three)
       left_by found p on below false false false one two three =
           let garbage : is_garbage gc p ≡ true =
-          and_from (nat_lt p.at (mark_of gc.older p.server p.file)) (not (covers gc.older.found p || (covers gc.newer.found p || covers gc.freed p))) below
-          (three_false (covers gc.older.found p) (covers gc.newer.found p) (covers gc.freed p) one two three) in
-          inl (counts p ∙ or_right (covers gc.freed p) (lie_in ranges p)
+          and_from (nat_lt p.at (mark_of gc.older p.server p.file))
+          (not (extents_cover gc.older.found p || (extents_cover gc.newer.found p || extents_cover gc.freed p))) below
+          (three_false (extents_cover gc.older.found p) (extents_cover gc.newer.found p) (extents_cover gc.freed p) one two three) in
+          inl (counts p ∙ or_right (extents_cover gc.freed p) (lie_in ranges p)
           (are.exact p ∙ and_from (nat_eq p.server k) (is_garbage gc p) (eq-eqb p.server k on) garbage))
 
       left_of : FoundOnlyKept kind t.before old → (p : Place) → p.server ≡ k → p.at < mark_of gc.older p.server p.file
-          → (covers new.tables.beside.gc.freed p ≡ true) ⊎ IsKept kind t.before old p
+          → (extents_cover new.tables.beside.gc.freed p ≡ true) ⊎ IsKeptByte kind t.before old p
       left_of found p on below =
-          left_by found p on (lt-ltb p.at (mark_of gc.older p.server p.file) below) (covers gc.older.found p) (covers gc.newer.found p) (covers gc.freed p)
+          left_by found p on (lt-ltb p.at (mark_of gc.older p.server p.file) below) (extents_cover gc.older.found p) (extents_cover gc.newer.found p)
+          (extents_cover gc.freed p)
           refl refl refl
 
       -- no byte that is named was freed, and none is garbage
-      kept_stays : (p : Place) → IsKept kind t.before old p → covers new.tables.beside.gc.freed p ≡ false
+      kept_stays : (p : Place) → IsKeptByte kind t.before old p → extents_cover new.tables.beside.gc.freed p ≡ false
       kept_stays p h =
           let w : Map = metadata_at old.tables.kv h.number in
-          let was : covers gc.freed p ≡ false = map_none (covers gc.freed) old.settings.region told w (gone.live h.number h.live) p h.named in
+          let was : extents_cover gc.freed p ≡ false = map_none (extents_cover gc.freed) old.settings.region told w (gone.live h.number h.live) p h.named in
           let garbage : is_garbage gc p ≡ false = map_none (is_garbage gc) old.settings.region told w (unnamed.live h.number h.live) p h.named in
           counts p ∙ ap (λ (b : Bool). b || lie_in ranges p) was ∙ are.exact p ∙ neither (nat_eq p.server k) (is_garbage gc p) garbage
         where
@@ -121,7 +124,7 @@ module _ {S : Type 0} (kind : StoreKind S) (t : Span S) (old new : CoreView) (se
       )
 
       -- where no other number can be read, what is named is named by the map now
-      alone : (rests : IsAtRest old.tables) → gc.running ≡ None → (p : Place) → IsKept kind t.after new p
+      alone : (rests : IsAtRest old.tables) → gc.running ≡ None → (p : Place) → IsKeptByte kind t.after new p
           → MapNames new.settings.region later (metadata_now new.tables.kv) p
       alone rests none p h =
           let number : h.number ≡ new.tables.kv.number =

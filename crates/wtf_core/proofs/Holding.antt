@@ -106,7 +106,7 @@ module _ {S : Type 0} (kind : StoreKind S) (t : Span S) (k : KeeperSpan) (laws :
         inr (
           old.kv.number,
           subst (λ (s : BesideView). Contains s.images old.kv.number) (sym failed.beside) (Contains-push old.beside.images old.kv.number),
-          new_held now saves failed.hands,
+          (new_held now saves failed.hands),
         ),
       ))
       ((laws.kept (failed.hands.bytes ∷ []) failed.hands.handed).bytes bytes held)

@@ -1,34 +1,18 @@
 -- Where no transaction and no job is open, and a scan that runs has pinned no other, just the number now, those of the images and the one that is
 -- watched can be read.
-use Rattle.std.proofs.Common.{◌≡◌, ◌<◌, ℕ, zero, suc, Bool, true, ◌||◌, cond, nat_eq, List, [], ◌∷◌, Option, None, Some, refl, sym, ap, ◌∙◌}
+use Rattle.std.proofs.Common.{◌≡◌, ◌<◌, ℕ, Bool, true, ◌||◌, nat_eq, List, [], ◌∷◌, Option, None, Some, refl, sym, ap, ◌∙◌}
 use Rattle.std.proofs.Common.{⊎_elim, arith}
 use Rattle.std.specs.Prelude.{IsTrue, if◌then◌else◌}
 use Rattle.std.specs.List.{list_any}
 use Rattle.std.proofs.lemmas.Bool.{cases_Bool, or_cases, or_left, or_right, cases_lt, eq-eqb, false≢true}
-use Rattle.std.proofs.lemmas.List.Sums.{sum_by-cons}
 use Rattle.wtf_kv.specs.Stores.{is_live, is_pinned}
 use Rattle.wtf_kv.proofs.PinLaws.{any-count, count-any}
-use Rattle.wtf_replay.specs.Views.{TxnView}
 use Rattle.wtf_gc.specs.Views.{RunView}
-use Rattle.wtf_clients.specs.Sounds.{all_owned, planned, all_planned, all_seen, all_watched, AreSound}
-use Rattle.wtf_clients.specs.Views.{Clients, Jobs, TablesView, of_client, of_label}
+use Rattle.wtf_clients.specs.Sounds.{all_seen, all_watched, AreSound}
+use Rattle.wtf_clients.specs.Views.{Clients, TablesView, of_client, of_label}
+use Rattle.wtf_clients.proofs.KeptNames.{none_owned, none_planned}
 use Rattle.wtf_clients.proofs.Lives.{live_cases}
 use Rattle.wtf_core.specs.Quiet.{AreIdle, IsAtRest, is_kept, is_watched}
-
-none_owned : (n : ℕ) (clients : Clients) → ((c : ℕ) → of_client clients c ≡ None) → all_owned n clients ≡ 0
-none_owned n [] none = refl
-none_owned n ((k, x) ∷ es) none =
-    let there : of_client ((k, x) ∷ es) k ≡ Some x = ap (λ b. cond b (Some x) (of_client es k)) (eq-eqb k k refl) in
-    let bad : ◌≡◌ {A = Option TxnView} None (Some x) = sym (none k) ∙ there in
-    absurd (cc)
-
-none_planned : (n : ℕ) (jobs : Jobs) → ((j : ℕ) → of_label jobs j ≡ None) → all_planned n jobs ≡ 0
-none_planned n [] none = refl
-none_planned n (o ∷ os) none =
-    let whole = sum_by-cons (planned n) o os in
-    let here : planned n o ≡ 0 = ap (planned n) (none zero) in
-    let rest = none_planned n os (λ j. none (suc j)) in
-    omega (arith, whole, here, rest)
 
 -- what is watched is counted once
 watched_some : (n : ℕ) (o : Option ℕ) → 0 < all_watched n o → is_watched o n ≡ true

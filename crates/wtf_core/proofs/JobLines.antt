@@ -1,6 +1,6 @@
 -- Each line of a job keeps the tables sound, and is the machine's.
 -- NSDI 2016, section 2.8 (lists of regions are compacted, and written into slices of their own, beside the calls of clients).
-use Rattle.std.proofs.Common.{◌≡◌, ◌≢◌, ◌⊎◌, ◌≤◌, ℕ, ◌+◌, true, List, [], ◌∷◌, Option, None, Some, Ok, MatchOption, refl, sym, ap}
+use Rattle.std.proofs.Common.{◌≡◌, ◌≢◌, ◌⊎◌, ◌≤◌, ℕ, ◌+◌, true, List, [], Option, None, Some, Ok, MatchOption, refl, sym, ap}
 use Rattle.std.proofs.Common.{◌∙◌, subst, inl, inr, arith}
 use Rattle.std.specs.FinMap.{get, remove}
 use Rattle.std.specs.Option.{option_map}
@@ -17,26 +17,28 @@ use Rattle.wtf_model.specs.declared.item.Item.{Item}
 use Rattle.wtf_model.specs.declared.item.Item.TheVariants.{BodyOf}
 use Rattle.wtf_model.specs.declared.op.JobKind.{JobKind}
 use Rattle.wtf_model.specs.Faults.{or_refusal}
-use Rattle.wtf_model.specs.Items.{meets, source_reads}
+use Rattle.wtf_model.specs.Items.{bodies_at, meets, source_reads}
 use Rattle.wtf_model.specs.Jobs.{is_idle, has_region, plan_answer, MayFailPlan, MayPut, job_changes, drop_answer}
 use Rattle.wtf_model.specs.Machines.{Machine}
 use Rattle.wtf_model.specs.Steps.{touch, touch_job, with_job, without_job, put_in_place, dropped}
 use Rattle.wtf_model.specs.Transaction.{Job}
-use Rattle.wtf_model.specs.Tree.{◌>>=◌, source}
-use Rattle.wtf_model.proofs.ItemLaws.{get-each, get-each_none}
+use Rattle.wtf_model.specs.Tree.{◌>>=◌, paths_at, source}
+use Rattle.wtf_model.proofs.ItemLaws.{is_among-bodies, get-each, get-each_none}
 use Rattle.wtf_model.proofs.JobLaws.{plan-taken}
 use Rattle.wtf_model.proofs.Laws.{get-number_same, get-number_other}
 use Rattle.wtf_meta.specs.Bytes.{MaybeBytes}
 use Rattle.wtf_meta.specs.Contents.{Told, is_told, is_listed}
+use Rattle.wtf_meta.specs.Feet.{Has}
 use Rattle.wtf_meta.specs.Maps.{Map, with, metadata_at}
 use Rattle.wtf_meta.specs.Trees.{LeadsTo, Stands}
 use Rattle.wtf_meta.proofs.Named.{region_of_bytes}
+use Rattle.wtf_meta.proofs.Standing.{leads-paths}
 use Rattle.wtf_meta.proofs.Telling.{TellsOn}
 use Rattle.wtf_replay.specs.Tried.{KeepsVersions}
 use Rattle.wtf_image.specs.Savable.{AreBefore}
 use Rattle.wtf_compact.specs.Jobs.{JobView, job_edits, target_region}
 use Rattle.wtf_compact.specs.Planned.{KeepsRegion}
-use Rattle.wtf_compact.specs.Putting.{IsPut, IsInPlace, IsStale}
+use Rattle.wtf_compact.specs.Putting.{IsJobPut, IsInPlace, IsStale}
 use Rattle.wtf_compact.proofs.PutLaws.{put_stands}
 use Rattle.wtf_clients.specs.Views.{TablesView, of_label, metadata_now}
 use Rattle.wtf_clients.specs.Seeing.{Seeing}
@@ -109,8 +111,8 @@ module _ (old new : TablesView) (j : ℕ) (sound : AreSound old) where
     module _ (x : JobView) (there : of_label old.beside.jobs j ≡ Some x) (t : Job) (job : StandsForJob size told old.kv x t)
         (found : get m.jobs j ≡ Some t) where
       -- the items that others see touched
-      body_is : job_changes m.now (get m.jobs j) ≡ BodyOf x.path ∷ []
-      body_is = ap (job_changes m.now) found ∙ ap (λ q. BodyOf q ∷ []) job.path
+      body_is : job_changes m.now (get m.jobs j) ≡ bodies_at m.now x.path
+      body_is = ap (job_changes m.now) found ∙ ap (bodies_at m.now) job.path
 
       installed_stand : (n : ℕ) → Puts old new j x (answer.Installed n)
           → MayPut m (Some t) (answer.Installed n) × TablesStand size later new (put_in_place m j (answer.Installed n))
@@ -119,28 +121,29 @@ module _ (old new : TablesView) (j : ℕ) (sound : AreSound old) where
           let turned = put_turned old new j sound x there (answer.Installed n) did in
           let leads_now : LeadsTo (metadata_now old.kv) x.path x.target.inode = put.agree.0 ∙ job.leads in
           let first : Stands size told old.next_tx 0 (metadata_now old.kv) m.now = st.later old.next_tx (omega arith) in
-          let one : (q : List ℕ) → LeadsTo (metadata_now old.kv) q x.target.inode → q ≡ x.path = λ q to. first.apart q x.path x.target.inode to leads_now in
+          let items : List Item = job_changes m.now (get m.jobs j) in
+          let each : (q : List ℕ) → LeadsTo (metadata_now old.kv) q x.target.inode → Has (BodyOf q) items = λ q to.
+          subst (Has (BodyOf q)) (sym body_is) (is_among-bodies (paths_at m.now x.path) q
+          (leads-paths size told old.next_tx 0 (metadata_now old.kv) m.now first x.path q x.target.inode leads_now to)) in
           let keeps : KeepsRegion size later (target_region (metadata_at old.kv x.base) x.target) x.value =
           keeps_later told later on size (target_region (metadata_at old.kv x.base) x.target) x.value job.known job.keeps in
           let trees : (tx : ℕ) → Stands size told tx 0 (metadata_now old.kv) m.now → Stands size later tx 0 (metadata_now new.kv) m.now = λ tx was.
           put_stands size later tx 0 m.now (answer.Installed n) x old.kv new.kv put keeps
           (Stands-later told later on size tx 0 (metadata_now old.kv) m.now was) in
-          let items : List Item = job_changes m.now (get m.jobs j) in
           let next = put.next in
           let after : Map = with (job_edits x) (metadata_now old.kv) in
           let up : ◌≤◌ old.next_tx new.next_tx = let more = did.keeps.next_tx in omega (arith, more) in (
             next ∙ ap (λ k. k + 1) (sym st.number),
-            job_stands old new j None sound turned size told later m (put_in_place m j (answer.Installed n)) (BodyOf x.path ∷ []) st on
+            job_stands old new j None sound turned size told later m (put_in_place m j (answer.Installed n)) items st on
                 (sym put.number) refl refl
-                (λ c. get-each (touch items) m.transactions c ∙ ap (λ l. option_map (touch l) (get m.transactions c)) body_is)
-                (λ l ne. get-each (touch_job items) (remove m.jobs j) l ∙ ap (option_map (touch_job items)) (gone_there m.jobs j l ne)
-                ∙ ap (λ k. option_map (touch_job k) (get m.jobs l)) body_is)
+                (λ c. get-each (touch items) m.transactions c)
+                (λ l ne. get-each (touch_job items) (remove m.jobs j) l ∙ ap (option_map (touch_job items)) (gone_there m.jobs j l ne))
                 trees
-                (λ tx base its based was since. put_since x old.kv new.kv n put one size told later m.now tx was (trees tx was) base its
+                (λ tx base its based was since. put_since x old.kv new.kv n put items each size told later m.now tx was (trees tx was) base its
                 (did.maps base based) since)
-                (λ base its based was. put_touched x old.kv new.kv n put one size told later m.now old.next_tx first (trees old.next_tx first) base its
+                (λ base its based was. put_touched x old.kv new.kv n put items each size told later m.now old.next_tx first (trees old.next_tx first) base its
                 (did.maps base based) was)
-                (subst (AreBefore new.next_tx) (sym (put_map x old.kv new.kv n put one))
+                (subst (AreBefore new.next_tx) (sym (put_map x old.kv new.kv n put items each))
                 (before_more old.next_tx new.next_tx after up
                 (before_own 0 old.next_tx (metadata_now old.kv) after sound.begun
                 (put_own x.target.inode x.target.region 0 x.value (metadata_now old.kv)) st.before)))
@@ -164,7 +167,7 @@ module _ (old new : TablesView) (j : ℕ) (sound : AreSound old) where
       puts_stand : (a : Answer) → Puts old new j x a → MayPut m (Some t) a × TablesStand size later new (put_in_place m j a)
       puts_stand a did = by a did did.put
         where
-          by : (b : Answer) → Puts old new j x b → IsPut x old.kv new.kv b → MayPut m (Some t) b × TablesStand size later new (put_in_place m j b)
+          by : (b : Answer) → Puts old new j x b → IsJobPut x old.kv new.kv b → MayPut m (Some t) b × TablesStand size later new (put_in_place m j b)
           by (answer.Installed n) d put = installed_stand n d
           by (answer.Stale c n) d put = stale_stand c n d
           by b d put = absurd put

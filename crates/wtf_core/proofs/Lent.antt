@@ -31,7 +31,7 @@ use Rattle.wtf_clients.specs.Views.{TablesView}
 use Rattle.wtf_clients.proofs.Leaving.{leaves_none}
 use Rattle.wtf_core.specs.Ended.{LineMade, LineEnds}
 use Rattle.wtf_core.specs.Lent.{is_of_tables, TablesTurn, TablesTold, IsUnpunching, TablesLine, TablesDone}
-use Rattle.wtf_core.specs.Made.{IsMade}
+use Rattle.wtf_core.specs.Made.{IsCoreMade}
 use Rattle.wtf_core.specs.Promises.{IsLeftBy}
 use Rattle.wtf_core.specs.Remembering.{KeepsPunched}
 use Rattle.wtf_core.specs.Telling.{ServesTurn}
@@ -334,8 +334,8 @@ module _ {S : Type 0} {kind : StoreKind S} (laws : KindLaws kind) (before after 
 
   -- and the core's parts are as they were made
   pub line_keeps : {E : Type 0} (e : Event) (r : Result Answer E) → TablesDone kind before after old new e r
-      → IsMade before.settings old before.replicas.now before.ring.now before.cache.now → AreSound new
-      → IsMade before.settings new before.replicas.now before.ring.now after.cache.now
+      → IsCoreMade before.settings old before.replicas.now before.ring.now before.cache.now → AreSound new
+      → IsCoreMade before.settings new before.replicas.now before.ring.now after.cache.now
   line_keeps e r done made kept =
       let goes = (goes_any e r done).1 in
       record {
@@ -350,7 +350,7 @@ module _ {S : Type 0} {kind : StoreKind S} (laws : KindLaws kind) (before after 
 -- the same of what a core lends whose parts are as they were made
 module _ {S : Type 0} {kind : StoreKind S} (laws : KindLaws kind) {before after : Dev S} {old new : TablesView} {E : Type 0} {e : Event}
     {r : Result Answer E} (done : TablesDone kind before after old new e r) (closed : Bool)
-    (made : IsMade before.settings old before.replicas.now before.ring.now before.cache.now) (enough : before.settings.servers ≤ length (stores before))
+    (made : IsCoreMade before.settings old before.replicas.now before.ring.now before.cache.now) (enough : before.settings.servers ≤ length (stores before))
     (lists : CacheInside (inside_of kind before) (remembered before)) where
   pub lent_soundly : IsSoundDev kind before
   lent_soundly = lends_soundly kind before old made enough lists
@@ -363,7 +363,7 @@ module _ {S : Type 0} {kind : StoreKind S} (laws : KindLaws kind) {before after 
       (left laws before after old new closed made.tables_are lent_soundly made.points_are) e r
   lent_ends of_it = line_ends laws before after old new closed made.tables_are lent_soundly made.points_are e r of_it done
 
-  pub lent_keeps : AreSound new → IsMade before.settings new before.replicas.now before.ring.now after.cache.now
+  pub lent_keeps : AreSound new → IsCoreMade before.settings new before.replicas.now before.ring.now after.cache.now
   lent_keeps kept = line_keeps laws before after old new closed made.tables_are lent_soundly made.points_are e r done made kept
 
 -- a line of the tables hands a keeper nothing, and fails to save nothing

@@ -18,7 +18,7 @@ use Rattle.wtf_model.specs.Steps.{is_call_refusal, tried, stepped, called, with_
 use Rattle.wtf_log.proofs.StandingLaws.{OpsStandFor-length}
 use Rattle.wtf_meta.specs.Contents.{Told}
 use Rattle.wtf_meta.proofs.Telling.{TellsOn}
-use Rattle.wtf_replay.specs.Views.{TxnView, is_live, is_full}
+use Rattle.wtf_replay.specs.Views.{TxnView, is_txn_live, is_full}
 use Rattle.wtf_replay.specs.Refusals.{call_refusal, try_refusal, step_refusal}
 use Rattle.wtf_replay.specs.Sounds.{tells_slice}
 use Rattle.wtf_clients.specs.Views.{TablesView, of_client}
@@ -36,7 +36,7 @@ module _ (size : ℕ) (told : Told) (old : TablesView) (m : Machine) (x : TxnVie
   count_is = OpsStandFor-length (tells_slice told) x.log.ops t.ops txn.sound.ops_are
 
   -- so both are live, or neither, and both are full, or neither
-  live_is : is_live x ≡ is_live_txn t
+  live_is : is_txn_live x ≡ is_live_txn t
   live_is = ap (λ n. nat_eq n (length x.log.ops)) (sym txn.replayed) ∙ ap (λ n. nat_eq t.replayed n) count_is
 
   full_is : is_full x ≡ is_full_txn t
@@ -118,7 +118,7 @@ module _ (z : Seeing) (old new : TablesView) (m : Machine) (c : ℕ) (sound : Ar
       (λ asked t2. ⊎_elim
       (λ calls. calls_stand z old new c x o a sound here calls m t region st on there asked telling)
       (λ fails. fails_stand z old new c x o a sound here fails m t region count st on there asked) t2)
-      (λ w is e. not_logged m c t o a w e (own_word (is_live x) (is_full x) w is)) turn
+      (λ w is e. not_logged m c t o a w e (own_word (is_txn_live x) (is_full x) w is)) turn
 
   -- a line of either; no client has one in the tables alone, or in the machine alone
   slot_stands : (s : Option TxnView) (o : Option Transaction) (v : Verb) (a : Answer) → of_client old.clients c ≡ s → get m.transactions c ≡ o

@@ -24,7 +24,7 @@ use Rattle.wtf_replay.specs.Views.{TxnView}
 use Rattle.wtf_replay.specs.Refusals.{call_refusal, try_refusal, step_refusal}
 use Rattle.wtf_replay.specs.Tried.{KeepsMaps}
 use Rattle.wtf_compact.specs.Jobs.{JobView}
-use Rattle.wtf_compact.specs.Putting.{IsPut}
+use Rattle.wtf_compact.specs.Putting.{IsJobPut}
 use Rattle.wtf_gc.specs.Scans.{run_on, with_run, with_finished}
 use Rattle.wtf_gc.specs.Views.{RunView, GcView}
 use Rattle.wtf_clients.specs.Views.{BesideView, TablesView, of_client, of_label, was_job, with_gc}
@@ -33,7 +33,8 @@ use Rattle.wtf_clients.specs.Sounds.{AreSound, Sets, all_kept}
 use Rattle.wtf_clients.specs.Saves.{AreUp, Saves, SaveTurn, only_image, with_image}
 use Rattle.wtf_clients.specs.JobTurns.{KeepsOthers, RefusesJob, FreePlan, PlanTurn, Puts, PutTurn, DropsJob, DropTurn}
 use Rattle.wtf_clients.specs.ScanTurns.{ScanTurn, PieceTurn, PieceFails, DoesTurn, CollectTurn, KeepsStore}
-use Rattle.wtf_clients.specs.Turns.{Keeps, Stays, Refuses, Begins, Ends, Tries, Calls, CallFails, Steps, Finals, LoneTurn, TxnTurn, ClientTurn}
+use Rattle.wtf_clients.specs.Turns.{SetsClientAlone, TablesStay, Refuses, Begins, Ends, Tries, Calls, CallFails, StepTurn, Finals, LoneTurn, TxnTurn}
+use Rattle.wtf_clients.specs.Turns.{ClientTurn}
 use Rattle.wtf_clients.proofs.Dumping.{uncollected}
 use Rattle.wtf_clients.proofs.JobTurning.{plan_reaches, put_reaches, drop_reaches}
 use Rattle.wtf_clients.proofs.Lives.{Reaches, live_upto, pinned_live, same_reaches, begun_reaches, ended_reaches, moved_reaches}
@@ -209,7 +210,7 @@ module _ (old new : TablesView) (c : ℕ) (sound : AreSound old) where
       let one : later ≡ y = cc in
       subst (λ o. KeepsAge old.next_tx o y) (sym here) (ap (λ (z : TxnView). z.tx) (sym one) ∙ same)
 
-  keeps : (now : Option TxnView) → Keeps old new c now → ((y : TxnView) → now ≡ Some y → KeepsAge old.next_tx (of_client old.clients c) y)
+  keeps : (now : Option TxnView) → SetsClientAlone old new c now → ((y : TxnView) → now ≡ Some y → KeepsAge old.next_tx (of_client old.clients c) y)
       → (a : Answer) → IsUncollected a → Plainly old new a
   keeps now h own a said =
       set now h.clients (λ n le. ap (λ (s : Store Key Value). metadata_at s n) h.kv)
@@ -220,7 +221,7 @@ module _ (old new : TablesView) (c : ℕ) (sound : AreSound old) where
   refuses w a h =
       keeps (of_client old.clients c) h.keeps (λ y is. stays_age old.next_tx (of_client old.clients c) y is) a (refused_uncollected a w h.answer)
 
-  stays : Stays old new c → (a : Answer) → IsUncollected a → Plainly old new a
+  stays : TablesStay old new c → (a : Answer) → IsUncollected a → Plainly old new a
   stays h a said =
       set (of_client old.clients c) h.clients h.maps (same_reaches old.kv new.kv h.pins) h.beside (stay old new h.number h.next_tx)
       (λ y is. stays_age old.next_tx (of_client old.clients c) y is) a said
@@ -255,7 +256,7 @@ module _ (old new : TablesView) (c : ℕ) (sound : AreSound old) where
   tries x a here h = absurd h
 
   module _ (z : Seeing) where
-    steps : (x : TxnView) (a : Answer) → of_client old.clients c ≡ Some x → Steps z old new c x a → Plainly old new a
+    steps : (x : TxnView) (a : Answer) → of_client old.clients c ≡ Some x → StepTurn z old new c x a → Plainly old new a
     steps x (answer.Replayed i) here h =
         keeps (Some h.later_one) h.keeps (goes_age x here h.later_one (ap (λ (y : TxnView). y.tx) h.replayed.is)) (answer.Replayed i) tt
     steps x (Aborted' i box b) here h = ends old.kv x (still old.kv.number) h.ends (Aborted' i box b) tt
@@ -289,7 +290,7 @@ module _ (old new : TablesView) (c : ℕ) (sound : AreSound old) where
         → Plainly old new a
     txn x verb.Begin a here h = refuses InTx a h
     txn x verb.Try a here h = or_refused (Tries old new c x a) a (try_refusal x) (tries x a here) h
-    txn x verb.Step a here h = or_refused (Steps z old new c x a) a (step_refusal x) (steps x a here) h
+    txn x verb.Step a here h = or_refused (StepTurn z old new c x a) a (step_refusal x) (steps x a here) h
     txn x verb.Commit a here h = finals x a h
     txn x verb.Abort a here h = ends old.kv x (still old.kv.number) h.1 a (subst IsUncollected (sym h.0) tt)
     txn x (verb.Call o) a here h = or_refused _ a (call_refusal x) (made x o a here) h
@@ -360,7 +361,7 @@ module _ (old new : TablesView) (j : ℕ) (sound : AreSound old) where
         by (Some x) g = let said : a ≡ answer.Refused JobInUse = g.answer in absurd (cc)
 
   -- ... put in place, or stale
-  puts : (x : JobView) (a : Answer) → of_label old.beside.jobs j ≡ Some x → Puts old new j x a → IsPut x old.kv new.kv a → Plainly old new a
+  puts : (x : JobView) (a : Answer) → of_label old.beside.jobs j ≡ Some x → Puts old new j x a → IsJobPut x old.kv new.kv a → Plainly old new a
   puts x (answer.Installed n) there h put =
       let number = put.number in
       let next = put.next in

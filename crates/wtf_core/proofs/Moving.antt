@@ -12,7 +12,7 @@ use Rattle.wtf_model.specs.declared.event.Event.{Event}
 use Rattle.wtf_model.specs.declared.event.Event.TheVariants as event
 use Rattle.wtf_meta.specs.Contents.{Told}
 use Rattle.wtf_meta.specs.Maps.{metadata_at}
-use Rattle.wtf_gc.specs.Extents.{covers}
+use Rattle.wtf_gc.specs.Extents.{extents_cover}
 use Rattle.wtf_gc.specs.Views.{GcView, length_in}
 use Rattle.wtf_clients.specs.Views.{TablesView, metadata_now}
 use Rattle.wtf_clients.proofs.Lives.{number_live}
@@ -94,7 +94,7 @@ module _ {S : Type 0} (kind : StoreKind S) (t : Span S) (old new : CoreView) (se
 
   -- what the map now names of a server, and what counts as freed there, stays
   module _ (rest : SameRest old.tables new.tables) (now : metadata_now new.tables.kv ≡ metadata_now old.tables.kv)
-      (freed : (p : Place) → covers old.tables.beside.gc.freed p ≡ true → covers new.tables.beside.gc.freed p ≡ true) where
+      (freed : (p : Place) → extents_cover old.tables.beside.gc.freed p ≡ true → extents_cover new.tables.beside.gc.freed p ≡ true) where
     now_later : (p : Place) → MapNames old.settings.region told (metadata_now old.tables.kv) p
         → MapNames new.settings.region later (metadata_now new.tables.kv) p
     now_later p h = subst (λ (s : Settings). MapNames s.region later (metadata_now new.tables.kv) p) (sym settings)
@@ -113,7 +113,7 @@ module _ {S : Type 0} (kind : StoreKind S) (t : Span S) (old new : CoreView) (se
   -- a line that leaves the scans leaves the stage
   pub steady : (e : Event) (a : Answer) → ((s next : Stage) → next_stage s e a ≡ Some next → s ≡ next) → ReadsSame old.tables.kv new.tables.kv
       → SameRest old.tables new.tables → SameScans old.tables.beside.gc new.tables.beside.gc
-      → ((p : Place) → covers old.tables.beside.gc.freed p ≡ true → covers new.tables.beside.gc.freed p ≡ true) → Moves kind t old new e a
+      → ((p : Place) → extents_cover old.tables.beside.gc.freed p ≡ true → extents_cover new.tables.beside.gc.freed p ≡ true) → Moves kind t old new e a
   steady e a stage reads rest scans freed = record {
     rest = rest;
     scans = λ s next is idle h. subst (λ (x : Stage). HasScans kind t.after new x) (stage s next is)
@@ -140,4 +140,4 @@ module _ {S : Type 0} (kind : StoreKind S) (t : Span S) (old new : CoreView) (se
         older = ap (λ (x : TablesView). x.beside.gc.older) is;
         newer = ap (λ (x : TablesView). x.beside.gc.newer) is;
       })
-      (λ p here. ap (λ (x : TablesView). covers x.beside.gc.freed p) is ∙ here)
+      (λ p here. ap (λ (x : TablesView). extents_cover x.beside.gc.freed p) is ∙ here)

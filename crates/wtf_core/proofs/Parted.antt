@@ -24,7 +24,7 @@ use Rattle.wtf_meta.specs.Contents.{Told, lists_in}
 use Rattle.wtf_meta.specs.Lists.{Lists, TellLists}
 use Rattle.wtf_meta.specs.Maps.{metadata_at}
 use Rattle.wtf_region.specs.declared.dev.Dev.{Dev}
-use Rattle.wtf_gc.specs.Extents.{covers}
+use Rattle.wtf_gc.specs.Extents.{extents_cover}
 use Rattle.wtf_gc.specs.Parts.{part_of, key_stands_in, IsIn, NamedIn, Finds}
 use Rattle.wtf_gc.specs.Scans.{next_parts, run_on, with_finished}
 use Rattle.wtf_gc.specs.Views.{ScanView, RunView, GcView, length_in}
@@ -74,10 +74,11 @@ module _ {S : Type 0} (kind : StoreKind S) (t : Span S) (old new : CoreView) (se
       number = turn.prunes.number;
     }
 
-    part_freed : (p : Place) → covers old.tables.beside.gc.freed p ≡ true → covers new.tables.beside.gc.freed p ≡ true
-    part_freed p here = ap (λ (g : GcView). covers g.freed p) turn.does.is ∙ by (nat_eq (run.left - n) 0)
+    part_freed : (p : Place) → extents_cover old.tables.beside.gc.freed p ≡ true → extents_cover new.tables.beside.gc.freed p ≡ true
+    part_freed p here = ap (λ (g : GcView). extents_cover g.freed p) turn.does.is ∙ by (nat_eq (run.left - n) 0)
       where
-        by : (b : Bool) → covers (cond b (with_finished old.tables.beside.gc then_run.scan) (record old.tables.beside.gc { running = Some then_run })).freed p
+        by : (b : Bool) → extents_cover (cond b (with_finished old.tables.beside.gc then_run.scan)
+            (record old.tables.beside.gc { running = Some then_run })).freed p
             ≡ true
         by true = here
         by false = here
@@ -90,7 +91,7 @@ module _ {S : Type 0} (kind : StoreKind S) (t : Span S) (old new : CoreView) (se
     not_idle : old.tables.beside.gc.running ≡ None → ⊥
     not_idle none = none_some old.tables.beside.gc.running run none turn.does.was
 
-    finds : Finds lists new.tables.kv (next_parts run.left n) (covers run.scan.found) (covers turn.does.found)
+    finds : Finds lists new.tables.kv (next_parts run.left n) (extents_cover run.scan.found) (extents_cover turn.does.found)
     finds = turn.does.reads.finds lists tell
 
     -- a value of a region that stands is that of a map that could be read
@@ -138,7 +139,7 @@ module _ {S : Type 0} (kind : StoreKind S) (t : Span S) (old new : CoreView) (se
       part_wider : (x : ℕ) → x < 64 - run.left → x < 64 - (run.left - n)
       part_wider x below = omega (arith, below)
 
-      all_found : (p : Place) → Named (64 - (run.left - n)) p → covers turn.does.found p ≡ true
+      all_found : (p : Place) → Named (64 - (run.left - n)) p → extents_cover turn.does.found p ≡ true
       all_found p h = ⊎_elim
           (λ (early : part_of h.kept.named.inode < 64 - run.left). finds.keeps p (had_begun.all p
           (parts_back old.settings.region told later old.tables.kv new.tables.kv part_same same (64 - run.left) p (record { kept = h.kept; part = early }))))
@@ -157,7 +158,7 @@ module _ {S : Type 0} (kind : StoreKind S) (t : Span S) (old new : CoreView) (se
           }))
           (cases_lt (part_of h.kept.named.inode) (64 - run.left))
 
-      only_found : (p : Place) → covers turn.does.found p ≡ true → Named (64 - (run.left - n)) p
+      only_found : (p : Place) → extents_cover turn.does.found p ≡ true → Named (64 - (run.left - n)) p
       only_found p here = ⊎_elim
           (λ had.
           let h = parts_on old.settings.region told later old.tables.kv new.tables.kv part_same same (64 - run.left) p (had_begun.only p had) in

@@ -35,23 +35,23 @@ use Rattle.wtf_meta.specs.Sessions.{Holds}
 use Rattle.wtf_meta.specs.Calls.{Caller, cap_for}
 use Rattle.wtf_meta.specs.Trees.{Stands}
 use Rattle.wtf_meta.proofs.Telling.{TellsOn}
-use Rattle.wtf_replay.specs.Views.{TxnView, begun, is_live}
+use Rattle.wtf_replay.specs.Views.{TxnView, begun, is_txn_live}
 use Rattle.wtf_replay.specs.Refusals.{call_refusal}
 use Rattle.wtf_replay.specs.Fits.{IsFit}
-use Rattle.wtf_replay.specs.Sounds.{IsSound, caller_at}
+use Rattle.wtf_replay.specs.Sounds.{LogStands, caller_at}
 use Rattle.wtf_replay.proofs.Deviating.{at_base}
 use Rattle.wtf_clients.specs.Views.{TablesView, of_client, metadata_now}
 use Rattle.wtf_clients.specs.Seeing.{Seeing}
-use Rattle.wtf_clients.specs.Sounds.{owned, IsOpen, AreSound}
+use Rattle.wtf_clients.specs.Sounds.{AreSound}
 use Rattle.wtf_clients.specs.Touched.{SinceBase}
 use Rattle.wtf_clients.specs.Standing.{StandsForTxn, StandsForSlot, TablesStand}
 use Rattle.wtf_clients.specs.Turns.{AreTrue, Refuses, Begins, Calls, CallFails, Ends}
 use Rattle.wtf_clients.proofs.Lists.{sets_same}
-use Rattle.wtf_clients.proofs.Pins.{one_some}
 use Rattle.wtf_clients.proofs.SinceLaws.{since_none}
-use Rattle.wtf_clients.proofs.Frames.{Turned, stands_kept}
+use Rattle.wtf_clients.proofs.Frames.{stands_kept}
 use Rattle.wtf_clients.proofs.Images.{before_none}
 use Rattle.wtf_clients.proofs.Later.{Stands-later}
+use Rattle.wtf_clients.proofs.Soundness.{begins_turned}
 use Rattle.wtf_clients.proofs.Staying.{IsFault, fault_is, keeps_stays, stays_stand}
 use Rattle.wtf_core.proofs.Machines.{cap_is}
 use Rattle.wtf_core.proofs.Ending.{txn_in, done_all, leaves_stand, goes_stand}
@@ -72,31 +72,6 @@ tables_later size told later tables m sound stands on =
 
 -- ---- a transaction begins
 module _ (old new : TablesView) (c : ℕ) (a : Answer) (sound : AreSound old) (none : of_client old.clients c ≡ None) (begins : Begins old new c a) where
-  -- the client has a transaction of the next number, at the number now, which is pinned for it
-  begins_turned : Turned old new c (Some (begun old.next_tx old.kv.number))
-  begins_turned =
-      let number : new.kv.number ≡ old.kv.number = ap (λ (k : Store Key Value). k.number) begins.kv in
-      let next = begins.next_tx in
-      let x : TxnView = begun old.next_tx old.kv.number in
-      record {
-        sets = begins.clients;
-        later = omega (arith, number);
-        maps = λ n le. ap (λ (k : Store Key Value). metadata_at k n) begins.kv;
-        more = omega (arith, next);
-        pins = λ n.
-            let more = begins.pinned n in
-            let was : owned n (of_client old.clients c) ≡ 0 = ap (owned n) none in
-            omega (arith, more, was);
-        beside = begins.beside;
-        own = λ z is. subst (λ v. IsOpen new.kv new.next_tx v) (one_some (Some x) x z refl is) (record {
-          going = refl;
-          fit = begins.fit;
-          based = omega (arith, number);
-          older = omega (arith, next);
-        });
-        whose = λ z is. inl (ap (λ (v : TxnView). v.tx) (sym (one_some (Some x) x z refl is)));
-      }
-
   -- the machine may answer so, and they stand for it with a transaction that begins on the tree now
   pub begins_stand : (size : ℕ) (told later : Told) (m : Machine) → TablesStand size told old m → TellsOn told later
       → MayAsk m None verb.Begin a × TablesStand size later new (machine_begun m c a)
@@ -109,7 +84,7 @@ module _ (old new : TablesView) (c : ℕ) (a : Answer) (sound : AreSound old) (n
       let now_is : metadata_now new.kv ≡ metadata_now old.kv = ap (λ (k : Store Key Value). metadata_now k) begins.kv in
       let fresh_tree : Stands size later old.next_tx 0 (metadata_now old.kv) m.now =
       Stands-later told later on size old.next_tx 0 (metadata_now old.kv) m.now (st.later old.next_tx (omega arith)) in
-      let none : (i : InodeId) → i.tx.0 ≡ old.next_tx → metadata_now new.kv (Inode i) ≡ None = λ i mine.
+      let unseen : (i : InodeId) → i.tx.0 ≡ old.next_tx → metadata_now new.kv (Inode i) ≡ None = λ i mine.
       ap (λ w. w (Inode i)) now_is ∙ before_none old.next_tx (metadata_now old.kv) st.before i mine in
       let stands : StandsForTxn size later new.kv m.now x t = record {
         sound = begins.sound size later;
@@ -118,11 +93,11 @@ module _ (old new : TablesView) (c : ℕ) (a : Answer) (sound : AreSound old) (n
         replayed = refl;
         tree = subst (λ v. Stands size later old.next_tx 0 v m.now) (sym (map old.kv.number)) fresh_tree;
         now = subst (λ v. Stands size later old.next_tx 0 v m.now) (sym now_is) fresh_tree;
-        since = subst (λ n. SinceBase new.kv old.next_tx n []) number (since_none new.kv old.next_tx none);
+        since = subst (λ n. SinceBase new.kv old.next_tx n []) number (since_none new.kv old.next_tx unseen);
       } in (
         begins.answer ∙ ap answer.Begun (sym st.number),
         subst (λ r. TablesStand size later new (machine_begun m c r)) (sym begins.answer)
-            (stands_kept size told later old new m after c (Some x) sound st on begins_turned number
+            (stands_kept size told later old new m after c (Some x) sound st on (begins_turned old new c a sound none begins) number
             (λ q. ap (λ (k : Store Key Value). versions_of key_cmp k q) begins.kv)
             (λ d other. get-number_other m.transactions c t d other) refl refl refl refl
             (subst (λ o. StandsForSlot size later new.kv m.now (Some x) o) (sym (get-number_same m.transactions c t)) stands)),
@@ -140,7 +115,7 @@ made_live true full u v h = refl
 made_live false full u v h = absurd (cc)
 
 call_live : (x : TxnView) → call_refusal x ≡ None → x.replayed ≡ length x.log.ops
-call_live x h = eqb-true x.replayed (length x.log.ops) (made_live (is_live x) _ _ _ h)
+call_live x h = eqb-true x.replayed (length x.log.ops) (made_live (is_txn_live x) _ _ _ h)
 
 -- the last of equal lists
 last_same : {A : Type 0} (xs : List A) (x y : A) → xs ++ x ∷ [] ≡ xs ++ y ∷ [] → x ≡ y
@@ -154,7 +129,7 @@ last_answer cap tree ops shown o a before all =
     (sym all ∙ answers_from-push cap (fresh tree) ops o ∙ ap (λ l. l ++ (call cap (session_after cap tree ops) o).answer ∷ []) before)
 
 -- all of the calls answer what was shown, where all are done
-all_answers : (size : ℕ) (kv : Store Key Value) (told : Told) (x : TxnView) (ops : List (Op (List ℕ))) (tree : Tree) → IsSound size kv told x ops → IsFit kv x
+all_answers : (size : ℕ) (kv : Store Key Value) (told : Told) (x : TxnView) (ops : List (Op (List ℕ))) (tree : Tree) → LogStands size kv told x ops → IsFit kv x
     → x.replayed ≡ length x.log.ops
     → Stands size told x.tx 0 (metadata_at kv x.at.base) tree → answers_of (MAX_REGIONS * size) tree ops ≡ x.log.shown
 all_answers size kv told x ops tree sound fit live stands =
@@ -181,7 +156,7 @@ module _ (z : Seeing) (old new : TablesView) (c : ℕ) (x : TxnView) (o : Op (Li
       let txn = txn_in z.size z.told old m c x t st here there in
       let fit : IsFit old.kv x = (sound.each c x here).fit in
       let live = call_live x asked in
-      let calls_are : IsSound z.size old.kv z.later y (t.ops ++ o ∷ []) = calls.sound (telling.0, telling.1, txn.tree.bytes) t.ops txn.sound in
+      let calls_are : LogStands z.size old.kv z.later y (t.ops ++ o ∷ []) = calls.sound (telling.0, telling.1, txn.tree.bytes) t.ops txn.sound in
       let log : y.log ≡ with_call x.log calls.called.kept a = is.log in
       let shown : y.log.shown ≡ x.log.shown ++ a ∷ [] = ap (λ l. l.shown) log in
       let live2 : y.replayed ≡ length y.log.ops = is.replayed ∙ ap (λ n. n + 1) live ∙ sym (length_push x.log.ops calls.called.kept)
@@ -212,7 +187,7 @@ fault_unlogged (answer.Damaged k) h = refl
 fault_unlogged a h = absurd h
 
 -- what the calls that are done have left of the tree at the base is what the next call runs on
-module _ (size : ℕ) (kv : Store Key Value) (told : Told) (x : TxnView) (t : Transaction) (sound : IsSound size kv told x t.ops)
+module _ (size : ℕ) (kv : Store Key Value) (told : Told) (x : TxnView) (t : Transaction) (sound : LogStands size kv told x t.ops)
     (live : x.replayed ≡ length x.log.ops) (stands : Stands size told x.tx 0 (metadata_at kv x.at.base) t.tree) where
   pub next_may : (servers : ℕ) (o : Op (List ℕ)) (a : Answer)
       → ((y : Caller) (u : Told) (S : Session) → y.size ≡ size → Stands y.size u y.tx y.calls (seen kv x.at) S.tree → Holds u (seen kv x.at) x.session S

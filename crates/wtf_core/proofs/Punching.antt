@@ -17,7 +17,7 @@ use Rattle.wtf_region.specs.declared.dev.Dev.{Dev}
 use Rattle.wtf_region.specs.Devs.{IsSoundDev, GoesOn, stores, remembered, is_down_in}
 use Rattle.wtf_region.proofs.Spans.{goes_nowhere, goes_on}
 use Rattle.wtf_gc.specs.declared.extent.Extent.{Extent}
-use Rattle.wtf_gc.specs.Extents.{covers}
+use Rattle.wtf_gc.specs.Extents.{extents_cover}
 use Rattle.wtf_gc.specs.Frees.{AreZeroed, lie_in, tried_on}
 use Rattle.wtf_gc.specs.Views.{GcView}
 use Rattle.wtf_clients.specs.ScanTurns.{CollectTurn, CollectsSome}
@@ -47,24 +47,24 @@ counts_same old new (answer.FaultPunch k) same = (
   [],
   refl,
   omega arith,
-  λ p. ap (λ (es : List Extent). covers es p) same ∙ sym (or_none (covers old.freed p)),
+  λ p. ap (λ (es : List Extent). extents_cover es p) same ∙ sym (or_none (extents_cover old.freed p)),
 )
-counts_same old new a same = λ p. ap (λ (es : List Extent). covers es p) same ∙ sym (or_none (covers old.freed p))
+counts_same old new a same = λ p. ap (λ (es : List Extent). extents_cover es p) same ∙ sym (or_none (extents_cover old.freed p))
 
 freed_none : {S : Type 0} (kind : StoreKind S) (down : ℕ → Bool) (before after : List S) (old new : GcView) → new.freed ≡ old.freed
     → AreFreed kind down before after old new
 freed_none kind down before after old new same =
-    let none : (p : Place) → covers old.freed p ≡ false → covers new.freed p ≡ true → ⊥ =
-    λ p was is. true≢false (sym is ∙ ap (λ (es : List Extent). covers es p) same ∙ was) in
+    let none : (p : Place) → extents_cover old.freed p ≡ false → extents_cover new.freed p ≡ true → ⊥ =
+    λ p was is. true≢false (sym is ∙ ap (λ (es : List Extent). extents_cover es p) same ∙ was) in
     record { up = λ p was is. absurd (none p was is); zeros = λ tells p was is. absurd (none p was is) }
 
 -- ---- a collection
 -- what it made zeros, and no more, came to count as freed
 freed_by : {S : Type 0} (kind : StoreKind S) (before after : Dev S) (old new : GcView) (rs : List (ℕ × Range))
-    → ((p : Place) → covers new.freed p ≡ (covers old.freed p || lie_in rs p)) → AreZeroed kind before after rs
+    → ((p : Place) → extents_cover new.freed p ≡ (extents_cover old.freed p || lie_in rs p)) → AreZeroed kind before after rs
     → AreFreed kind (is_down before.replicas.now) (stores before) (stores after) old new
 freed_by kind before after old new rs counts zeroed =
-    let among : (p : Place) → covers old.freed p ≡ false → covers new.freed p ≡ true → lie_in rs p ≡ true =
+    let among : (p : Place) → extents_cover old.freed p ≡ false → extents_cover new.freed p ≡ true → lie_in rs p ≡ true =
     λ p was is. sym (counts p ∙ ap (λ b. b || lie_in rs p) was) ∙ is in
     record { up = λ p was is. zeroed.up p (among p was is); zeros = λ tells p was is. zeroed.zeros tells p (among p was is) }
 

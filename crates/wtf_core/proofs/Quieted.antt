@@ -11,7 +11,7 @@ use Rattle.wtf_replica.specs.Spans.{Span}
 use Rattle.wtf_meta.specs.Contents.{Told, is_told}
 use Rattle.wtf_meta.specs.Maps.{Map, metadata_at}
 use Rattle.wtf_meta.specs.Trees.{Stands}
-use Rattle.wtf_gc.specs.Extents.{covers}
+use Rattle.wtf_gc.specs.Extents.{extents_cover}
 use Rattle.wtf_gc.specs.Views.{RunView, mark_of}
 use Rattle.wtf_clients.specs.Named.{ListedBytes}
 use Rattle.wtf_clients.specs.Safe.{IsSafe, LieIn}
@@ -98,7 +98,8 @@ module _ {S : Type 0} (kind : StoreKind S) (shelf : List S) (answered : CoreView
   pub tidied_kept : (k : ℕ) → LeavesKept kind shelf answered k → LeavesKept kind shelf tidied k
   tidied_kept k h p on below =
       let was = h p on (subst (λ (b : BesideView). p.at < mark_of b.gc.older p.server p.file) tidy.beside below) in
-      let freed : covers tables.beside.gc.freed p ≡ covers answered.tables.beside.gc.freed p = ap (λ (b : BesideView). covers b.gc.freed p) tidy.beside in (
+      let freed : extents_cover tables.beside.gc.freed p ≡ extents_cover answered.tables.beside.gc.freed p =
+      ap (λ (b : BesideView). extents_cover b.gc.freed p) tidy.beside in (
         λ free. names_later kind shelf shelf answered tidied refl (λ j f. refl) reads bases p (was.0 (sym freed ∙ free)),
         λ kept. freed ∙ was.1 (names_before kind shelf shelf answered tidied refl (λ j f. refl) reads bases p kept),
       )
@@ -106,8 +107,8 @@ module _ {S : Type 0} (kind : StoreKind S) (shelf : List S) (answered : CoreView
   pub tidied_collected : (k : ℕ) → HasCollected kind shelf answered k → HasCollected kind shelf tidied k
   tidied_collected k h = record {
     rests = rests_tidied h.rests;
-    left = λ p on file below. subst (λ (b : BesideView). (covers b.gc.freed p ≡ true) ⊎ MapNames answered.settings.region (byte_at kind shelf)
+    left = λ p on file below. subst (λ (b : BesideView). (extents_cover b.gc.freed p ≡ true) ⊎ MapNames answered.settings.region (byte_at kind shelf)
         (metadata_now tables.kv) p) (sym tidy.beside)
-        (subst (λ (w : Map). (covers answered.tables.beside.gc.freed p ≡ true) ⊎ MapNames answered.settings.region (byte_at kind shelf) w p)
+        (subst (λ (w : Map). (extents_cover answered.tables.beside.gc.freed p ≡ true) ⊎ MapNames answered.settings.region (byte_at kind shelf) w p)
         (sym (now_same answered.tables tables tidy)) (h.left p on file below));
   }

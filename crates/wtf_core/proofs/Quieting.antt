@@ -54,7 +54,7 @@ use Rattle.wtf_image.specs.Tables.{shown}
 use Rattle.wtf_image.proofs.SaveMap.{says_all}
 use Rattle.wtf_image.proofs.StandsLaws.{stands_savable}
 use Rattle.wtf_compact.specs.Jobs.{JobView}
-use Rattle.wtf_gc.specs.Extents.{covers}
+use Rattle.wtf_gc.specs.Extents.{extents_cover}
 use Rattle.wtf_gc.specs.Frees.{lie_in}
 use Rattle.wtf_gc.specs.Named.{region_has}
 use Rattle.wtf_gc.specs.Parts.{part_of}
@@ -73,7 +73,7 @@ use Rattle.wtf_clients.proofs.Punched.{listed_apart, tells_punched}
 use Rattle.wtf_clients.proofs.SafeLaws.{garbage_unnamed}
 use Rattle.wtf_clients.proofs.ScanFrames.{start_maps, start_reads, start_sound}
 use Rattle.wtf_core.specs.Promises.{LeavesNamed, scene}
-use Rattle.wtf_core.specs.Punched.{Punches}
+use Rattle.wtf_core.specs.Punched.{CorePunches}
 use Rattle.wtf_core.specs.Quiet.{MapNames, ImageNames, IsIdle, AreIdle, is_kept, WatchesNoOther}
 use Rattle.wtf_core.specs.Quiet.{Stage, Saved, Scans, Scanned, ScansAgain, ScannedTwice, stage_begun, stage_done, next_stage}
 use Rattle.wtf_core.specs.Quiet.{IsScanned, IsBegun, HasScans, IsAtStage, HasCollected}
@@ -162,7 +162,7 @@ module _ {S : Type 0} (kind : StoreKind S) (t : Span S) (old new : CoreView) (se
             marks = λ k f. turn.starts.mark k f ∙ sym (long_on k f);
             left = omega (arith, all_left);
             all = λ p h. absurd (no_part (part_of h.kept.named.inode) h.part);
-            only = λ p here. absurd (true≢false (sym here ∙ ap (λ es. covers es p) turn.starts.found));
+            only = λ p here. absurd (true≢false (sym here ∙ ap (λ es. extents_cover es p) turn.starts.found));
             seen = λ n here. was_kept n (sym (turn.starts.seen n) ∙ here);
           })
 
@@ -184,7 +184,7 @@ module _ {S : Type 0} (kind : StoreKind S) (t : Span S) (old new : CoreView) (se
       stays = still_collected kind t old new settings many lengths same start_rest
           (start_maps kind t.before old.tables new.tables sound turn new.tables.kv.number
           ∙ ap (λ (n : ℕ). metadata_at old.tables.kv n) turn.starts.pins.number)
-          (λ p here. ap (λ (g : GcView). covers g.freed p) turn.starts.is ∙ here);
+          (λ p here. ap (λ (g : GcView). extents_cover g.freed p) turn.starts.is ∙ here);
     }
 
 -- ---- each line
@@ -229,8 +229,8 @@ freed_bases {kind = kind} laws before after core k ranges among follows tells n 
     let gc : GcView = core.tables.beside.gc in
     let apart : ListedBytes core.settings.region told (are_apart ranges) core.tables =
     listed_apart (is_garbage gc) ranges (λ p here. (and_parts (nat_eq p.server k) (is_garbage gc p) (among p here)).1) core.settings.region told
-    core.tables (garbage_unnamed core.settings.region told core.tables tells.safe) in
-    bases_punched laws follows core.settings.region (metadata_at core.tables.kv n) (apart.live n live)
+    core.tables (garbage_unnamed core.settings.region told core.tables tells.safe)
+    in bases_punched laws follows core.settings.region (metadata_at core.tables.kv n) (apart.live n live)
 
 -- a piece fails for no want of servers to write to
 lacks_none : {S : Type 0} (kind : StoreKind S) (before after : Dev S) (base : Option Spill) → IsBaseFault kind before after base fault.Write → ⊥
@@ -257,7 +257,8 @@ module _ {S : Type 0} {kind : StoreKind S} (laws : KindLaws kind) (t : Span S) (
 
   abbrev Does : Event → Answer → Type 0
   Does e a =
-      Punches kind t.before t.after old.tables.beside.gc new.tables.beside.gc e a → SameLengths kind t.before t.after → LineTurn kind t old new e a → Quiet e a
+      CorePunches kind t.before t.after old.tables.beside.gc new.tables.beside.gc e a → SameLengths kind t.before t.after
+      → LineTurn kind t old new e a → Quiet e a
 
   -- one that leaves the tables and punches nothing
   quiet_still : (e : Event) (a : Answer) → ((s next : Stage) → next_stage s e a ≡ Some next → s ≡ next) → (IsCollection e a → ⊥)
@@ -323,7 +324,7 @@ module _ {S : Type 0} {kind : StoreKind S} (laws : KindLaws kind) (t : Span S) (
         older = ap (λ (b : BesideView). b.gc.older) p.beside;
         newer = ap (λ (b : BesideView). b.gc.newer) p.beside;
       })
-      (λ q here. ap (λ (b : BesideView). covers b.gc.freed q) p.beside ∙ here)) (λ h. h)
+      (λ q here. ap (λ (b : BesideView). extents_cover b.gc.freed q) p.beside ∙ here)) (λ h. h)
 
   quiet_collect : (k n : ℕ) → Does (event.Collect k) (answer.Collected n)
   quiet_collect k n punched lengths turn =
@@ -366,7 +367,8 @@ never x is = cc
 
 module _ {S : Type 0} {kind : StoreKind S} (laws : KindLaws kind) (t : Span S) (old new : CoreView) where
   pub quiet_on : (e : Event) (a : Answer) → AreSound old.tables → TellsCore kind t.before old
-      → Punches kind t.before t.after old.tables.beside.gc new.tables.beside.gc e a → AddsBytes kind t old.settings (load_of e) a → LineTurn kind t old new e a
+      → CorePunches kind t.before t.after old.tables.beside.gc new.tables.beside.gc e a → AddsBytes kind t old.settings (load_of e) a
+      → LineTurn kind t old new e a
       → GoesOnQuietly kind t old new e a
   quiet_on event.Scan answer.Scanning sound tells punched adds turn = quiet_scan laws t old new sound tells punched adds turn
   quiet_on event.Scan (answer.Refused ScanBusy) sound tells punched adds turn =
@@ -434,7 +436,7 @@ rests_saved kind t told old new m n stands idle unwatched turn =
 module _ {S : Type 0} {kind : StoreKind S} (laws : KindLaws kind) (t : Span S) (k : KeeperSpan) (old new : CoreView) (m : Machine) (j n : ℕ)
     (sound : AreSound old.tables) (stands : StandsFor (byte_at kind t.before) old m) (had : HasCollected kind t.before old j)
     (saved : HasSaved kind t k old.settings old.tables) (tells : k.before.tells ≡ true)
-    (punched : Punches kind t.before t.after old.tables.beside.gc new.tables.beside.gc event.Save (answer.Saved n))
+    (punched : CorePunches kind t.before t.after old.tables.beside.gc new.tables.beside.gc event.Save (answer.Saved n))
     (lengths : SameLengths kind t.before t.after) where
   abbrev was : Told
   was = byte_at kind t.before
@@ -473,7 +475,7 @@ module _ {S : Type 0} {kind : StoreKind S} (laws : KindLaws kind) (t : Span S) (
   left_named bytes held p on file below =
       let same : saved.hands.bytes ≡ bytes = some_is saved.hands.bytes bytes (sym (saved.held tells) ∙ held) in
       elim (had.left p on file (omega (arith, below, size_same kind t.before t.after punched.follows.same_length lengths j p.file))) [
-        | inl freed ↦ inl (punched.counts p ∙ still (covers old.tables.beside.gc.freed p) (lie_in punched.ranges p) freed)
+        | inl freed ↦ inl (punched.counts p ∙ still (extents_cover old.tables.beside.gc.freed p) (lie_in punched.ranges p) freed)
         | inr names ↦ inr (image_names bytes same p names)
       ]
     where

@@ -15,14 +15,14 @@ use Rattle.wtf_region.specs.Devs.{IsSoundDev, GoesOn, stores, remembered, shown_
 use Rattle.wtf_region.specs.Inside.{is_inside}
 use Rattle.wtf_region.proofs.Frames.{CacheInside-on, CacheTrue-on}
 use Rattle.wtf_clients.specs.Views.{TablesView}
-use Rattle.wtf_core.specs.Made.{IsMade}
+use Rattle.wtf_core.specs.Made.{IsCoreMade}
 use Rattle.wtf_core.specs.Named.{IsInside}
 use Rattle.wtf_core.specs.Remembering.{KeepsLists}
 use Rattle.wtf_core.specs.Turns.{Switches, ServerTurn}
 use Rattle.wtf_core.specs.Views.{CoreView}
 
 -- what a core lends to a line
-pub sound_dev : {S : Type 0} (kind : StoreKind S) (dev : Dev S) (tables : TablesView) → IsMade dev.settings tables dev.replicas.now dev.ring.now
+pub sound_dev : {S : Type 0} (kind : StoreKind S) (dev : Dev S) (tables : TablesView) → IsCoreMade dev.settings tables dev.replicas.now dev.ring.now
     dev.cache.now → dev.settings.servers ≤ length (stores dev)
     → CacheInside (inside_of kind dev) (remembered dev) → IsSoundDev kind dev
 sound_dev kind dev tables made enough lists = record {

@@ -2,10 +2,10 @@
 use Rattle.std.proofs.Common.{◌≡◌, ◌≤◌, ℕ, false, cond, nat_eq, List, [], ◌∷◌, Option, None, Some, refl, sym, ap, subst, ◌∙◌, true≢false, ⊎_elim, arith, inl}
 use Rattle.std.proofs.Common.{inr}
 use Rattle.std.specs.FinMap.{get-empty}
-use Rattle.std.specs.List.{All, Contains}
+use Rattle.std.specs.List.{Contains}
 use Rattle.std.specs.Ordering.{nat_cmp}
 use Rattle.std.proofs.lemmas.List.{append-nil}
-use Rattle.std.proofs.lemmas.List.Elements.{All-nil, All-cons, Contains-push, Contains-push_cases}
+use Rattle.std.proofs.lemmas.List.Elements.{Contains-push, Contains-push_cases}
 use Rattle.wtf_replica.specs.Downs.{is_down}
 use Rattle.std.proofs.lemmas.Bool.{cases_Bool, eqb-true}
 use Rattle.std.specs.Prelude.{IsTrue}
@@ -15,7 +15,6 @@ use Rattle.wtf_region.specs.Inside.{is_inside}
 use Rattle.wtf_kv.specs.Stores.{Store, is_pinned}
 use Rattle.wtf_kv.proofs.PinLaws.{count-any, count-push}
 use Rattle.wtf_values.specs.declared.key.Key.{Key}
-use Rattle.wtf_overlay.specs.declared.part.Entry.{Entry}
 use Rattle.wtf_values.specs.declared.region.RegionValue.{RegionValue}
 use Rattle.wtf_values.specs.declared.region.Spill.{Spill}
 use Rattle.wtf_values.specs.declared.value.Value.{Value}
@@ -24,7 +23,7 @@ use Rattle.wtf_model.specs.Machines.{start}
 use Rattle.wtf_model.specs.Tree.{Tree}
 use Rattle.wtf_model.proofs.StepLaws.{is_down-start}
 use Rattle.wtf_meta.specs.Contents.{Told}
-use Rattle.wtf_meta.specs.Bytes.{EntryBytes, BaseBytes, RegionBytes, any_slice}
+use Rattle.wtf_meta.specs.Bytes.{BaseBytes, RegionBytes, any_slice}
 use Rattle.wtf_meta.specs.Maps.{Map}
 use Rattle.wtf_meta.specs.Trees.{Stands}
 use Rattle.wtf_image.specs.declared.loads.Loaded.{Loaded}
@@ -49,10 +48,11 @@ use Rattle.wtf_core.specs.Views.{CoreView}
 use Rattle.wtf_clients.specs.Standing.{IsImageTree, StandsForSlot, StandsForLabel}
 use Rattle.wtf_core.specs.Standing.{StandsFor}
 use Rattle.wtf_clients.specs.Named.{any_byte, no_slice}
-use Rattle.wtf_core.specs.Named.{IsInside, IsBare}
+use Rattle.wtf_core.specs.Named.{IsInside, IsBareCore}
 use Rattle.wtf_core.specs.Loading.{IsCoreOf}
 use Rattle.wtf_clients.specs.Saves.{only_image}
 use Rattle.wtf_clients.specs.Sounds.{all_owned, all_kept, AreSound}
+use Rattle.wtf_clients.proofs.Lacking.{any_entries}
 use Rattle.wtf_clients.proofs.Naming.{bytes_alone}
 use Rattle.wtf_clients.specs.Keeping.{IsHeldBy}
 use Rattle.wtf_core.specs.Pictured.{IsImageOfTree, IsBareImage}
@@ -186,16 +186,12 @@ base_none : (base : Option Spill) → base_row base ≡ None → BaseBytes any_b
 base_none None is = tt
 base_none (Some s) is = absurd (cc)
 
-any_entries : (es : List Entry) → All (EntryBytes any_byte) es
-any_entries [] = All-nil (EntryBytes any_byte)
-any_entries (e ∷ es) = All-cons (EntryBytes any_byte) e es (λ i below. refl) (any_entries es)
-
 region_bare : (v : RegionValue) (row : RegionRow) → plain (value.Region v) ≡ plain_region row → row.base ≡ None → RegionBytes any_byte no_slice v
 region_bare v row is none =
     let same : base_row v.base ≡ row.base = cc in
     record { base = base_none v.base (same ∙ none); entries = any_entries v.list }
 
-pub bare_loaded : (size : ℕ → ℕ → ℕ) (bytes : List ℕ) (core : CoreView) → AreSound core.tables → IsCoreOf size bytes core → IsBareImage bytes → IsBare core
+pub bare_loaded : (size : ℕ → ℕ → ℕ) (bytes : List ℕ) (core : CoreView) → AreSound core.tables → IsCoreOf size bytes core → IsBareImage bytes → IsBareCore core
 bare_loaded size bytes core sound of_it bare =
     bytes_alone any_byte no_slice core.tables (λ c. none_of core.tables.clients c of_it.clients)
     (λ j. idle_of core.tables.beside j (ap (λ (b : BesideView). b.jobs) of_it.beside)) (pinned_alone core sound of_it.clients of_it.beside)

@@ -19,7 +19,7 @@ use Rattle.wtf_values.specs.declared.key.Key.{Key}
 use Rattle.wtf_values.specs.declared.key.Key.TheVariants.{Path}
 use Rattle.wtf_values.specs.declared.value.Value.{Value}
 use Rattle.wtf_values.proofs.KeyLaws.{key_total}
-use Rattle.wtf_core.specs.Rows.{path_cmp, map_now, Shown, shown_value, shown_at, shown_below, with_row, entries_of, IsShown}
+use Rattle.wtf_core.specs.Rows.{path_cmp, map_now, ShownPaths, shown_value, shown_at, shown_below, with_row, entries_of, IsShown}
 use Rattle.wtf_core.proofs.RowsSorted.{is_sorted-push}
 
 less_is : (o : Ordering) → is_lt o ≡ true → o ≡ Less
@@ -69,7 +69,7 @@ pub record Walked (b : ℕ) (kv : Store Key Value) (at : Option Key) (rows : Lis
   pub has_version : IsReached key_cmp kv at
 
 module _ (b : ℕ) (kv : Store Key Value) where
-  abbrev shown : Shown
+  abbrev shown : ShownPaths
   shown = shown_at b (map_now kv)
 
   -- a path without a version is not shown

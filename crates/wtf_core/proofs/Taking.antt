@@ -31,7 +31,7 @@ use Rattle.wtf_clients.specs.Keeping.{KeeperSpan, Hands, KeeperFailed, KeeperTur
 use Rattle.wtf_core.specs.Views.{CoreView}
 use Rattle.wtf_core.specs.Turns.{LineTurn}
 use Rattle.wtf_core.specs.Pictured.{IsImageFor, IsImageWith, IsTakenFor, HoldsTaken, HoldsWith}
-use Rattle.wtf_core.specs.Promises.{scene, Leaves}
+use Rattle.wtf_core.specs.Promises.{scene, CoreLeaves}
 use Rattle.wtf_core.proofs.Moves.{Rises}
 use Rattle.wtf_core.proofs.Holding.{KeeperLaws, handed_one}
 use Rattle.wtf_core.proofs.Pointing.{rows_inside, taken_on}
@@ -165,12 +165,12 @@ module _ {S : Type 0} (kind : StoreKind S) (t : Span S) (grows : (k f : ℕ) →
   line_taken e turn did tells held = other_taken did held
 
   save_leaves : (b : Answer) → KeeperTurn kind t k old.settings old.tables new.tables event.Save b → k.before.tells ≡ true
-      → Leaves kind (scene t.before k.before old) (scene t.after k.after new) event.Save b
+      → CoreLeaves kind (scene t.before k.before old) (scene t.after k.after new) event.Save b
   save_leaves (answer.Saved n) did tells = saved_now kind t grows k keeper old.settings old.tables new.tables told m limits sound few next st inside rises n
       did tells
   save_leaves b did tells = tt
 
   pub line_leaves : (e : Event) (b : Answer) → KeeperTurn kind t k old.settings old.tables new.tables e b → k.before.tells ≡ true
-      → Leaves kind (scene t.before k.before old) (scene t.after k.after new) e b
+      → CoreLeaves kind (scene t.before k.before old) (scene t.after k.after new) e b
   line_leaves event.Save b did tells = save_leaves b did tells
   line_leaves e b did tells = tt

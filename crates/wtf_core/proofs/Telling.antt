@@ -26,7 +26,7 @@ use Rattle.wtf_model.specs.declared.answer.Answer.{Answer}
 use Rattle.wtf_model.specs.declared.answer.Answer.TheVariants as answer
 use Rattle.wtf_model.specs.declared.event.Event.{Event}
 use Rattle.wtf_model.specs.declared.answer.Word.TheVariants.{InTx, NoTx}
-use Rattle.wtf_gc.specs.Extents.{covers}
+use Rattle.wtf_gc.specs.Extents.{extents_cover}
 use Rattle.wtf_gc.specs.Views.{GcView, is_garbage, new_gc}
 use Rattle.wtf_clients.specs.Safe.{off, NamesNone, is_below, last_scan, OwnBytes, LieIn, IsSafe, Went}
 use Rattle.wtf_region.specs.Apart.{are_apart}
@@ -245,8 +245,8 @@ told_first kind shelf core named none all =
           away = listed (are_apart []);
         };
         safe = record {
-          gone = listed (off (covers gc.freed));
-          done = listed (off (λ p. is_below gc.older p && not (covers gc.newer.found p)));
+          gone = listed (off (extents_cover gc.freed));
+          done = listed (off (λ p. is_below gc.older p && not (extents_cover gc.newer.found p)));
           going = λ r runs X missed. listed (off X);
           since_txns = λ c x there late. ((named Last any_slice).tables.each c x there).log;
           since_jobs = λ j x there unmarked. own_bytes Last x.value ((named Last any_slice).tables.planned j x there);
@@ -279,9 +279,9 @@ off_none X none (q ∷ qs) = and_from (not (X q)) (off X qs) (ap not (none q)) (
 safe_first : (size : ℕ) (told : Told) (tables : TablesView) → tables.beside.gc ≡ new_gc → ((c : ℕ) → of_client tables.clients c ≡ None)
     → ((j : ℕ) → of_label tables.beside.jobs j ≡ None) → ListedBytes size told (is_told told) tables → IsSafe size told tables
 safe_first size told tables gc clients jobs names = record {
-  gone = none_of_set (covers tables.beside.gc.freed) (λ p. ap (λ (g : GcView). covers g.freed p) gc);
-  done = none_of_set (λ p. is_below tables.beside.gc.older p && not (covers tables.beside.gc.newer.found p))
-      (λ p. ap (λ (g : GcView). is_below g.older p && not (covers g.newer.found p)) gc ∙ ap (λ b. b && true) (below_none (nat_lt p.file 8) p));
+  gone = none_of_set (extents_cover tables.beside.gc.freed) (λ p. ap (λ (g : GcView). extents_cover g.freed p) gc);
+  done = none_of_set (λ p. is_below tables.beside.gc.older p && not (extents_cover tables.beside.gc.newer.found p))
+      (λ p. ap (λ (g : GcView). is_below g.older p && not (extents_cover g.newer.found p)) gc ∙ ap (λ b. b && true) (below_none (nat_lt p.file 8) p));
   going = λ r runs X missed. absurd (some_none (ap (λ (g : GcView). g.running) gc) runs);
   since_txns = λ c x there late. absurd (some_none (clients c) there);
   since_jobs = λ j x there unmarked. absurd (some_none (jobs j) there);

@@ -26,7 +26,7 @@ use Rattle.wtf_clients.specs.Saves.{SaveTurn}
 use Rattle.wtf_clients.specs.ScanTurns.{ScanTurn, PieceTurn, CollectTurn}
 use Rattle.wtf_clients.specs.Seeing.{Seeing, seeing}
 use Rattle.wtf_clients.specs.Sounds.{AreSound, all_watched}
-use Rattle.wtf_clients.specs.Turns.{Refuses, Tries, Calls, CallFails, Steps, Finals, LoneTurn, TxnTurn, ClientTurn}
+use Rattle.wtf_clients.specs.Turns.{Refuses, Tries, Calls, CallFails, StepTurn, Finals, LoneTurn, TxnTurn, ClientTurn}
 use Rattle.wtf_clients.specs.Views.{BesideView, TablesView, of_client, of_label}
 use Rattle.wtf_core.specs.Turns.{Switches, ServerTurn, LineTurn, IsLine}
 use Rattle.wtf_core.specs.Views.{CoreView, lent_of}
@@ -52,12 +52,12 @@ module _ (old new : TablesView) where
   tried c x a (Some w) turn = beside turn.keeps.beside
 
   module _ (z : Seeing) where
-    steps : (c : ℕ) (x : TxnView) (a : Answer) → Steps z old new c x a → SameWatched old new
+    steps : (c : ℕ) (x : TxnView) (a : Answer) → StepTurn z old new c x a → SameWatched old new
     steps c x (answer.Replayed i) turn = beside turn.keeps.beside
     steps c x (Aborted' i box a) turn = beside turn.ends.beside
     steps c x a turn = beside turn.fails.stays.beside
 
-    stepped : (c : ℕ) (x : TxnView) (a : Answer) (r : Option Word) → MatchOption r (Steps z old new c x a) (λ w. Refuses old new c w a)
+    stepped : (c : ℕ) (x : TxnView) (a : Answer) (r : Option Word) → MatchOption r (StepTurn z old new c x a) (λ w. Refuses old new c w a)
         → SameWatched old new
     stepped c x a None turn = steps c x a turn
     stepped c x a (Some w) turn = beside turn.keeps.beside

@@ -10,7 +10,7 @@ use Rattle.wtf_clients.specs.Views.{TablesView}
 use Rattle.wtf_clients.specs.Sounds.{AreSound}
 
 -- the servers, the ring and the places that are remembered are those of the settings, and the tables are sound
-pub record IsMade (settings : Settings) (tables : TablesView) (replicas : Replicas) (ring : RingView) (cache : CacheView) : Type 0 where
+pub record IsCoreMade (settings : Settings) (tables : TablesView) (replicas : Replicas) (ring : RingView) (cache : CacheView) : Type 0 where
   pub settings_are : AreSettings settings.servers settings.replicas settings.region
   pub replicas_are : settings_of replicas ≡ settings
   pub ring_is : ring.servers ≡ settings.servers

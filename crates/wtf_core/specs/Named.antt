@@ -29,8 +29,8 @@ abbrev pub IsBased : CoreView → (Slice → Bool) → Type 0
 IsBased core Q = AreBased core.tables Q
 
 -- no region has a base: all lists of regions are in the metadata
-abbrev pub IsBare : CoreView → Type 0
-IsBare core = AreBare core.tables
+abbrev pub IsBareCore : CoreView → Type 0
+IsBareCore core = AreBare core.tables
 
 -- and each byte that a core names has as many copies as there are replicas
 abbrev pub IsFull : CoreView → Type 0

@@ -10,8 +10,8 @@ use Rattle.wtf_model.specs.declared.answer.Answer.{Answer}
 use Rattle.wtf_model.specs.declared.answer.Answer.TheVariants as answer
 use Rattle.wtf_model.specs.declared.event.Event.{Event}
 use Rattle.wtf_model.specs.declared.event.Event.TheVariants as event
-use Rattle.wtf_gc.specs.Extents.{covers}
-use Rattle.wtf_gc.specs.Frees.{AreApart, AreGarbage, bytes_of, lie_in}
+use Rattle.wtf_gc.specs.Extents.{extents_cover}
+use Rattle.wtf_gc.specs.Frees.{AreApart, AreGarbage, ranges_len, lie_in}
 use Rattle.wtf_gc.specs.Views.{GcView, is_garbage}
 
 -- the ranges share no byte, and all of them are garbage of server k
@@ -27,7 +27,7 @@ IsUncollected a = ⊤
 -- A collection that frees n bytes punches just what is garbage of its server, which is so many bytes; one whose server fails, a part of
 -- that. No other line punches a range, or says so.
 abbrev pub ArePunchedBy : GcView → Event → Answer → List (ℕ × Range) → Type 0
-ArePunchedBy gc (event.Collect k) (answer.Collected n) ranges = AreGarbage gc k ranges × (n ≡ bytes_of ranges)
+ArePunchedBy gc (event.Collect k) (answer.Collected n) ranges = AreGarbage gc k ranges × (n ≡ ranges_len ranges)
 ArePunchedBy gc (event.Collect k) (answer.FaultPunch j) ranges = AreOfGarbage gc k ranges
 ArePunchedBy gc e a ranges = (ranges ≡ []) × IsUncollected a
 
@@ -35,11 +35,11 @@ ArePunchedBy gc e a ranges = (ranges ≡ []) × IsUncollected a
 abbrev pub CountsAs : GcView → GcView → Answer → List (ℕ × Range) → Type 0
 CountsAs old new (answer.FaultPunch k) ranges =
     (front last : List (ℕ × Range)) × (ranges ≡ front ++ last) × (length last ≤ 1)
-    × ((p : Place) → covers new.freed p ≡ (covers old.freed p || lie_in front p))
-CountsAs old new a ranges = (p : Place) → covers new.freed p ≡ (covers old.freed p || lie_in ranges p)
+    × ((p : Place) → extents_cover new.freed p ≡ (extents_cover old.freed p || lie_in front p))
+CountsAs old new a ranges = (p : Place) → extents_cover new.freed p ≡ (extents_cover old.freed p || lie_in ranges p)
 
 -- the ranges that a line punched, over what was garbage before it; each store follows what it was, with its own of these
-pub record Punches {S : Type 0} (kind : StoreKind S) (before after : List S) (old new : GcView) (e : Event) (a : Answer) : Type 0 where
+pub record CorePunches {S : Type 0} (kind : StoreKind S) (before after : List S) (old new : GcView) (e : Event) (a : Answer) : Type 0 where
   pub ranges : List (ℕ × Range)
   pub are : ArePunchedBy old e a ranges
   pub counts : CountsAs old new a ranges
@@ -47,5 +47,5 @@ pub record Punches {S : Type 0} (kind : StoreKind S) (before after : List S) (ol
 
 -- a byte that came to count as freed is zero now, where the stores tell their content, and its server is up
 pub record AreFreed {S : Type 0} (kind : StoreKind S) (down : ℕ → Bool) (before after : List S) (old new : GcView) : Type 0 where
-  pub up : (p : Place) → covers old.freed p ≡ false → covers new.freed p ≡ true → down p.server ≡ false
-  pub zeros : TellsAll kind before → (p : Place) → covers old.freed p ≡ false → covers new.freed p ≡ true → byte_at kind after p ≡ Some 0
+  pub up : (p : Place) → extents_cover old.freed p ≡ false → extents_cover new.freed p ≡ true → down p.server ≡ false
+  pub zeros : TellsAll kind before → (p : Place) → extents_cover old.freed p ≡ false → extents_cover new.freed p ≡ true → byte_at kind after p ≡ Some 0

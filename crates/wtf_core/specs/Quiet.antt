@@ -26,7 +26,7 @@ use Rattle.wtf_meta.specs.Maps.{Map, metadata_at}
 use Rattle.wtf_image.specs.Images.{HasText}
 use Rattle.wtf_image.specs.Lookups.{plain, row_at}
 use Rattle.wtf_image.specs.Rows.{ImageRows}
-use Rattle.wtf_gc.specs.Extents.{covers}
+use Rattle.wtf_gc.specs.Extents.{extents_cover}
 use Rattle.wtf_gc.specs.Named.{region_has}
 use Rattle.wtf_gc.specs.Parts.{part_of}
 use Rattle.wtf_gc.specs.Views.{ScanView, RunView, mark_of, length_in}
@@ -95,16 +95,16 @@ is_kept tables n = nat_eq n tables.kv.number || (list_any (nat_eq n) tables.besi
 -- a scan began when the files were as long as they are, and found just what the versions that are kept name
 pub record HasScanned (size : ℕ) (told : Told) (length : ℕ → ℕ → ℕ) (kv : Store Key Value) (s : ScanView) : Type 0 where
   pub marks : (k f : ℕ) → mark_of s k f ≡ length k f
-  pub all : (p : Place) → KeptNames size told kv p → covers s.found p ≡ true
-  pub only : (p : Place) → covers s.found p ≡ true → KeptNames size told kv p
+  pub all : (p : Place) → KeptNames size told kv p → extents_cover s.found p ≡ true
+  pub only : (p : Place) → extents_cover s.found p ≡ true → KeptNames size told kv p
 
 -- One began then, and has pinned no number but the one now, the images' and the one that is watched. It has found just what is named in the
 -- parts that are done.
 pub record HasBegun (size : ℕ) (told : Told) (length : ℕ → ℕ → ℕ) (tables : TablesView) (r : RunView) : Type 0 where
   pub marks : (k f : ℕ) → mark_of r.scan k f ≡ length k f
   pub left : r.left ≤ SCAN_PARTS
-  pub all : (p : Place) → PartsName size told tables.kv (SCAN_PARTS - r.left) p → covers r.scan.found p ≡ true
-  pub only : (p : Place) → covers r.scan.found p ≡ true → PartsName size told tables.kv (SCAN_PARTS - r.left) p
+  pub all : (p : Place) → PartsName size told tables.kv (SCAN_PARTS - r.left) p → extents_cover r.scan.found p ≡ true
+  pub only : (p : Place) → extents_cover r.scan.found p ≡ true → PartsName size told tables.kv (SCAN_PARTS - r.left) p
   pub seen : (n : ℕ) → list_any (nat_eq n) r.seen ≡ true → is_kept tables n ≡ true
 
 -- how far a quiet ending has come; one that has just begun is as far as a save brings it
@@ -139,8 +139,8 @@ next_stage s e a = None
 
 module _ {S : Type 0} (kind : StoreKind S) (shelf : List S) (core : CoreView) where
   -- a version that is kept names a byte, over these stores
-  abbrev pub IsKept : Place → Type 0
-  IsKept p = KeptNames core.settings.region (byte_at kind shelf) core.tables.kv p
+  abbrev pub IsKeptByte : Place → Type 0
+  IsKeptByte p = KeptNames core.settings.region (byte_at kind shelf) core.tables.kv p
 
   -- a scan of these stores is done, or has begun
   abbrev pub IsScanned : ScanView → Type 0
@@ -169,16 +169,16 @@ module _ {S : Type 0} (kind : StoreKind S) (shelf : List S) (core : CoreView) wh
 
   -- the last two scans found no byte but those that versions that are kept name
   pub record FoundOnlyKept : Type 0 where
-    pub older : (p : Place) → covers core.tables.beside.gc.older.found p ≡ true → IsKept p
-    pub newer : (p : Place) → covers core.tables.beside.gc.newer.found p ≡ true → IsKept p
+    pub older : (p : Place) → extents_cover core.tables.beside.gc.older.found p ≡ true → IsKeptByte p
+    pub newer : (p : Place) → extents_cover core.tables.beside.gc.newer.found p ≡ true → IsKeptByte p
 
   -- of server k, the bytes below the marks of the first of them that were not freed are just those that are named
   abbrev pub LeavesKept : ℕ → Type 0
   LeavesKept k = (p : Place) → p.server ≡ k → p.at < mark_of core.tables.beside.gc.older p.server p.file
-      → (covers core.tables.beside.gc.freed p ≡ false) ↔ IsKept p
+      → (extents_cover core.tables.beside.gc.freed p ≡ false) ↔ IsKeptByte p
 
   -- each byte of server k was freed, or is named by the map now, whose image is the only one that may be on the keeper
   pub record HasCollected (k : ℕ) : Type 0 where
     pub rests : IsAtRest core.tables
     pub left : (p : Place) → p.server ≡ k → p.file < 8 → p.at < size_in kind shelf k p.file
-        → (covers core.tables.beside.gc.freed p ≡ true) ⊎ MapNames core.settings.region (byte_at kind shelf) (metadata_now core.tables.kv) p
+        → (extents_cover core.tables.beside.gc.freed p ≡ true) ⊎ MapNames core.settings.region (byte_at kind shelf) (metadata_now core.tables.kv) p

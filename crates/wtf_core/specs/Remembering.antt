@@ -8,7 +8,7 @@ use Rattle.wtf_region.specs.Cached.{CacheInside, CacheTrue}
 use Rattle.wtf_region.specs.Inside.{is_inside}
 use Rattle.wtf_model.specs.declared.answer.Answer.{Answer}
 use Rattle.wtf_model.specs.declared.event.Event.{Event}
-use Rattle.wtf_core.specs.Punched.{AreFreed, Punches}
+use Rattle.wtf_core.specs.Punched.{AreFreed, CorePunches}
 use Rattle.wtf_core.specs.Views.{CoreView, KnowsLists}
 
 -- The slices and what their lists name lie inside the stores as they are left, of which these ranges were punched; and where each list was
@@ -21,6 +21,6 @@ pub record KeepsLists {S : Type 0} (kind : StoreKind S) (before after : List S) 
 
 -- what a line punched and freed, and what it made of the lists that are remembered
 pub record KeepsPunched {S : Type 0} (kind : StoreKind S) (before after : List S) (old new : CoreView) (e : Event) (a : Answer) : Type 0 where
-  pub punches : Punches kind before after old.tables.beside.gc new.tables.beside.gc e a
+  pub punches : CorePunches kind before after old.tables.beside.gc new.tables.beside.gc e a
   pub freed : AreFreed kind (is_down old.replicas) before after old.tables.beside.gc new.tables.beside.gc
   pub lists : KeepsLists kind before after punches.ranges old new

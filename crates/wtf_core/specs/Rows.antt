@@ -39,15 +39,15 @@ shown_value b w (Some (value.Last r)) = None
 shown_value b w (Some (value.Region v)) = None
 
 -- what is shown behind a path, none where it is not shown
-abbrev pub Shown : Type 0
-Shown = List ℕ → Option (Option ℕ)
+abbrev pub ShownPaths : Type 0
+ShownPaths = List ℕ → Option (Option ℕ)
 
 -- what a map shows
-abbrev pub shown_at : ℕ → Map → Shown
+abbrev pub shown_at : ℕ → Map → ShownPaths
 shown_at b w p = shown_value b w (w (Path p))
 
 -- and of that what lies below a key
-abbrev pub shown_below : Option Key → Shown → Shown
+abbrev pub shown_below : Option Key → ShownPaths → ShownPaths
 shown_below at shown p = cond (is_before key_cmp at (Path p)) (shown p) None
 
 -- rows, and then the one of a path, if it is shown
@@ -62,6 +62,6 @@ abbrev pub entries_of : List Row → List (List ℕ × Option ℕ)
 entries_of rows = map entry_of rows
 
 -- the paths of the rows rise, and they have just what is shown
-pub record IsShown (shown : Shown) (rows : List Row) : Type 0 where
+pub record IsShown (shown : ShownPaths) (rows : List Row) : Type 0 where
   pub sorted : T (is_sorted path_cmp (entries_of rows))
   pub each : (p : List ℕ) → find path_cmp p (entries_of rows) ≡ shown p

@@ -27,8 +27,9 @@ use Rattle.wtf_clients.specs.ScanTurns.{ScanTurn, PieceTurn, CollectTurn}
 use Rattle.wtf_clients.specs.Saves.{AreUp, SaveTurn}
 use Rattle.wtf_clients.specs.Seeing.{seeing}
 use Rattle.wtf_clients.specs.Sounds.{IsTidied}
-pub use Rattle.wtf_clients.specs.Turns.{Keeps, Refuses, Begins, Ends, Commits, Retries, Tries, TryTurn, Drops, Stays, Fails, Dumps, Tells, Calls, CallFails}
-pub use Rattle.wtf_clients.specs.Turns.{Replays, Aborts, StepFails, Finishes, GivesUp, CommitFails, Steps, Finals, LoneTurn, TxnTurn, ClientTurn}
+pub use Rattle.wtf_clients.specs.Turns.{SetsClientAlone, Refuses, Begins, Ends, Commits, Retries, Tries, TryTurn, Drops, TablesStay, Fails, Dumps, ListsAreTold}
+pub use Rattle.wtf_clients.specs.Turns.{Calls, CallFails}
+pub use Rattle.wtf_clients.specs.Turns.{Replays, Aborts, StepFails, Finishes, GivesUp, CommitFails, StepTurn, Finals, LoneTurn, TxnTurn, ClientTurn}
 
 -- a server goes down, or comes up
 pub record Switches (old new : CoreView) (k : ℕ) (down : Bool) (a : Answer) : Type 0 where

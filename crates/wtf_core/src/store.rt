@@ -18,13 +18,13 @@ ghost use Rattle.wtf_meta.specs.Contents.{Told};
 ghost use Rattle.wtf_image.specs.Rows.{ImageRows};
 ghost use Rattle.wtf_image.specs.Images.{HasText};
 ghost use Rattle.wtf_image.specs.Rules.{AreGoodSettings, size_in};
-ghost use Rattle.wtf_image.specs.Loading.{IsRefusal};
+ghost use Rattle.wtf_image.specs.Loading.{IsLoadRefusal};
 ghost use Rattle.wtf_image.specs.Outcome.{IsLoadOf};
 ghost use Rattle.wtf_clients.specs.Views.{unsaved};
 ghost use Rattle.wtf_clients.specs.Sounds.{AreSound};
 ghost use Rattle.wtf_core.specs.Standing.{StandsFor};
 ghost use Rattle.wtf_core.specs.Turns.{takes_no_memory, ServerTurn, ShowsTree, IsTreeAnswer};
-ghost use Rattle.wtf_core.specs.Named.{CoreBytes, IsInside, IsBare};
+ghost use Rattle.wtf_core.specs.Named.{CoreBytes, IsInside, IsBareCore};
 ghost use Rattle.wtf_core.specs.Telling.{TellsCore, IsWithin, stores_of};
 ghost use Rattle.wtf_clients.specs.Serves.{ServesLine, ServesEvent};
 ghost use Rattle.wtf_core.specs.Views.{lent_of};
@@ -66,7 +66,7 @@ pub struct Core {
 
 impl Model for Core {
     ghost use Rattle.wtf_core.specs.Views.{CoreView};
-    ghost use Rattle.wtf_core.specs.Made.{IsMade};
+    ghost use Rattle.wtf_core.specs.Made.{IsCoreMade};
 
     ghost Value = { CoreView };
 
@@ -96,7 +96,7 @@ impl Model for Core {
       lists = c.cache.lists;
     } };
 
-    ghost invariant = { λ c. IsMade c.settings c.tables c.replicas c.ring c.cache };
+    ghost invariant = { λ c. IsCoreMade c.settings c.tables c.replicas c.ring c.cache };
 }
 
 impl Core {
@@ -141,7 +141,7 @@ impl Core {
         ensures sound { IfOk result (λ core. AreSound core.tables) }
         ensures up { IfOk result (λ core. (k : ℕ) → is_down core.replicas k ≡ false) }
         ensures inside { IfOk result (IsInside S.kind shelf.now) }
-        ensures bare { IfOk result (λ core. IsBareImage bytes.now → IsBare core) }
+        ensures bare { IfOk result (λ core. IsBareImage bytes.now → IsBareCore core) }
         ensures stands { IfOk result (λ core. (told : Told) (t : Tree) →
             IsImageOfTree told bytes.now t →
             StandsFor told core (start core.settings core.tables.kv.number t)) }
@@ -154,7 +154,7 @@ impl Core {
             IsImageOfTree (byte_at S.kind (stores_of core.settings shelf.now)) bytes.now t →
             IsWithin S.kind shelf.now core) }
         ensures held { IfOk result (λ core. IsHeldBy core.tables core.settings bytes.now) }
-        ensures cause { IfErr result (IsRefusal (size_in S.kind shelf.now) bytes.now) }
+        ensures cause { IfErr result (IsLoadRefusal (size_in S.kind shelf.now) bytes.now) }
     {
         let loaded = match wtf_image::load(alloc, bytes, shelf) {
             Ok(loaded) => loaded,

@@ -27,8 +27,8 @@ use Rattle.wtf_clients.specs.Serves.{ServesEvent}
 use Rattle.wtf_clients.specs.Sounds.{AreSound}
 use Rattle.wtf_clients.specs.Views.{BesideView}
 use Rattle.wtf_clients.proofs.Lives.{now_bytes}
-use Rattle.wtf_core.specs.Promises.{Scene, scene, GoesOn, Obeys, Stores, IsCaused, Keeps, GoesOnTold, LeavesNamed}
-use Rattle.wtf_core.specs.Punched.{AreFreed, CountsAs, Punches}
+use Rattle.wtf_core.specs.Promises.{Scene, scene, CoreGoesOn, Obeys, Stores, IsCaused, KeepsImage, GoesOnTold, LeavesNamed}
+use Rattle.wtf_core.specs.Punched.{AreFreed, CountsAs, CorePunches}
 use Rattle.wtf_core.specs.Quiet.{Saved, HasCollected}
 use Rattle.wtf_core.specs.Remembering.{KeepsPunched}
 use Rattle.wtf_core.specs.Standing.{StandsFor}
@@ -232,12 +232,12 @@ named_is g c m stands k n collected is said tells =
     (subst (λ (b : Answer). KeeperTurn kind t (keeping g c) old.settings old.tables (answered g c).tables event.Save b) said
     (subst (λ (e : Event). KeeperTurn kind t (keeping g c) old.settings old.tables (answered g c).tables e c.in-Ok.answer) is (did_is g c)))
     tells
-    (subst (λ (b : Answer). Punches kind t.before t.after old.tables.beside.gc c.tidy.new.self.beside.gc event.Save b) said
-    (subst (λ (e : Event). Punches kind t.before t.after old.tables.beside.gc c.tidy.new.self.beside.gc e c.in-Ok.answer) is (keeps_are g c).punches))
+    (subst (λ (b : Answer). CorePunches kind t.before t.after old.tables.beside.gc c.tidy.new.self.beside.gc event.Save b) said
+    (subst (λ (e : Event). CorePunches kind t.before t.after old.tables.beside.gc c.tidy.new.self.beside.gc e c.in-Ok.answer) is (keeps_are g c).punches))
     (line_lengths kind t old.settings old (left g c) c.in-Ok.answer (subst (λ (e : Event). IsLine kind t old (left g c) e c.in-Ok.answer) is (line g c))
     (subst (λ (e : Event). AddsBytes kind t old.settings (load_of e) c.in-Ok.answer) is (serves_is g c).adds))
 
-goes_on_is : (g : Over) (c : After-tidy g) → GoesOn g.S.SliceStore.kind (first g c) (last g c) c.args.event c.in-Ok.answer
+goes_on_is : (g : Over) (c : After-tidy g) → CoreGoesOn g.S.SliceStore.kind (first g c) (last g c) c.args.event c.in-Ok.answer
 goes_on_is g c =
     let kind = g.S.SliceStore.kind in
     let old = c.args.self.now in
@@ -306,7 +306,7 @@ stored_is g c = record { adds = (serves_is g c).adds; placed = (serves_is g c).p
 caused_is : (g : Over) (c : After-tidy g) → IsCaused g.S.SliceStore.kind (first g c) (last g c) c.args.event c.in-Ok.answer
 caused_is g c = record { cause = (serves_is g c).caused; failed = (serves_is g c).failed }
 
-kept_is : (g : Over) (c : After-tidy g) → Keeps g.S.SliceStore.kind (keeping g c) (first g c) (last g c) c.args.event c.in-Ok.answer
+kept_is : (g : Over) (c : After-tidy g) → KeepsImage g.S.SliceStore.kind (keeping g c) (first g c) (last g c) c.args.event c.in-Ok.answer
 kept_is g c =
     let kind = g.S.SliceStore.kind in
     let old = c.args.self.now in
