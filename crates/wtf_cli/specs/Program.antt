@@ -34,17 +34,17 @@ status_line status =
     if status == 10 then Some (codes "wtf: no directory") else None)))))))))
 
 -- the line with its line feed, or no byte
-abbrev pub text_of : Option (List ℕ) → List ℕ
-text_of None = []
-text_of (Some line) = line ++ 10 ∷ []
+abbrev pub printed_line : Option (List ℕ) → List ℕ
+printed_line None = []
+printed_line (Some line) = line ++ 10 ∷ []
 
 -- what is written on standard error for a status
 abbrev pub error_text : ℕ → List ℕ
-error_text status = text_of (status_line status)
+error_text status = printed_line (status_line status)
 
 -- the statuses that the program ends with
-abbrev pub IsStatus : ℕ → Type 0
-IsStatus status = (status ≡ 10) ⊎ IsRunStatus status
+abbrev pub IsProgramStatus : ℕ → Type 0
+IsProgramStatus status = (status ≡ 10) ⊎ IsRunStatus status
 
 -- a store in memory with eight empty files, which fails only for want of memory
 abbrev pub empty_store : StoreState

@@ -2,7 +2,7 @@
 
 ghost use Rattle.std.specs.Prelude.{◌≡◌, drop, map, string_bytes, IfErr};
 ghost use Rattle.wtf_journaled.specs.Runs.{on_devices};
-ghost use Rattle.wtf_cli.specs.Program.{IsJournaledOver, IsStatus, open_status};
+ghost use Rattle.wtf_cli.specs.Program.{IsJournaledOver, IsProgramStatus, open_status};
 
 use crate::devices::Journaled;
 use crate::status::open_status;
@@ -19,7 +19,7 @@ pub(crate) fn run_journaled<S: Disk + Drop, D: Disk + Drop>(
     rt: &HostRuntime,
     opened: Result<Journaled<S, D>, OpenFault>,
 ) -> u8
-    ensures status { IsStatus result }
+    ensures status { IsProgramStatus result }
     ensures unopened { IfErr opened (λ fault. result ≡ open_status fault) }
 {
     let mut opened = match opened {
@@ -51,7 +51,7 @@ pub fn journaled_over<I: Source, O: Sink, S: Disk, D: Disk>(
     shelf: &mut Shelf<Synced<S>>,
     disk: &mut D,
 ) -> u8
-    ensures status { IsStatus result }
+    ensures status { IsProgramStatus result }
     ensures ran { IsJournaledOver S.kind D.kind (map string_bytes (drop 3 args.now)) result
         (on_devices (I.view script.old) (O.view out.old) shelf.old disk.old)
         (on_devices (I.view script.new) (O.view out.new) shelf.new disk.new) }

@@ -5,7 +5,7 @@ ghost use Rattle.std.specs.Prelude.{◌≡◌, drop, map, string_bytes, IfErr, O
 ghost use Rattle.std.specs.Process.{exit_status};
 ghost use Rattle.std.specs.Io.KnownBytes.{Appends};
 ghost use Rattle.wtf_serve.specs.Endings.{devices};
-ghost use Rattle.wtf_cli.specs.Program.{IsBroughtOut, IsStatus, IsRunOver, open_status, error_text};
+ghost use Rattle.wtf_cli.specs.Program.{IsBroughtOut, IsProgramStatus, IsRunOver, open_status, error_text};
 
 mod devices;
 mod first_word;
@@ -64,7 +64,7 @@ fn write_line<W: Write>(to: &mut W, status: u8) -> io::Result<()>
 
 /// Does what the words ask for, and answers its status. The standard streams are all open before any other file is.
 fn status_of(rt: &HostRuntime) -> u8
-    ensures { IsStatus result }
+    ensures { IsProgramStatus result }
 {
     let standing = match StandIns::open(rt) {
         Ok(standing) => standing,
@@ -110,7 +110,7 @@ fn is_journaled(rt: &HostRuntime) -> bool {
 
 /// Writes a text on standard output.
 fn show(rt: &HostRuntime, text: &str) -> u8
-    ensures { IsStatus result }
+    ensures { IsProgramStatus result }
 {
     match print!(rt; "{text}") {
         Ok(()) => FINISHED,
@@ -120,7 +120,7 @@ fn show(rt: &HostRuntime, text: &str) -> u8
 
 /// Runs the script over the folder of a store, and holds the folder until the run is over.
 fn run_in(rt: &HostRuntime, standing: &StandIns<File>, dir: &str) -> u8
-    ensures { IsStatus result }
+    ensures { IsProgramStatus result }
 {
     let lock = match FolderLock::open(rt, standing, dir) {
         Ok(lock) => lock,
@@ -137,7 +137,7 @@ fn run_in(rt: &HostRuntime, standing: &StandIns<File>, dir: &str) -> u8
 
 /// Runs the script over devices in memory.
 fn run_in_memory(rt: &HostRuntime) -> u8
-    ensures { IsStatus result }
+    ensures { IsProgramStatus result }
 {
     if is_journaled(rt) {
         return run_journaled(rt, journaled_in_memory(rt.alloc()));
@@ -150,7 +150,7 @@ fn run<S: SliceStore + Drop, K: Keeper + Drop>(
     rt: &HostRuntime,
     opened: Result<Opened<S, K>, OpenFault>,
 ) -> u8
-    ensures status { IsStatus result }
+    ensures status { IsProgramStatus result }
     ensures unopened { IfErr opened (λ fault. result ≡ open_status fault) }
 {
     let mut opened = match opened {
@@ -182,7 +182,7 @@ pub fn run_over<I: Source, O: Sink, S: SliceStore, K: Keeper>(
     shelf: &mut Shelf<S>,
     keeper: &mut K,
 ) -> u8
-    ensures status { IsStatus result }
+    ensures status { IsProgramStatus result }
     ensures ran { IsRunOver S.kind (K.follows keeper.old keeper.new)
         (map string_bytes (drop 2 args.now)) result
         (devices (I.view script.old) (O.view out.old) shelf.old (K.view keeper.old))
@@ -196,7 +196,7 @@ pub fn run_over<I: Source, O: Sink, S: SliceStore, K: Keeper>(
 /// Brings out what the sink of a run holds back that ended with this status, and answers the status then.
 fn brought_out<O: Sink>(out: &mut O, status: u8) -> u8
     ensures out { IsBroughtOut status result (O.view out.old) (O.view out.new) }
-    ensures known { IsStatus status → IsStatus result }
+    ensures known { IsProgramStatus status → IsProgramStatus result }
 {
     match out.write(&[]) {
         Ok(_) => status,
@@ -216,7 +216,7 @@ fn behind(args: &[String], count: usize) -> &[String]
 
 /// The program's name and the words after it, or the status where they cannot be had: words that are no text are refused.
 fn args_of(rt: &HostRuntime) -> Result<Vec<String>, u8>
-    ensures { IfErr result IsStatus }
+    ensures { IfErr result IsProgramStatus }
 {
     let all = match env::args(rt) {
         Ok(all) => all,

@@ -16,7 +16,7 @@ use Rattle.wtf_clients.specs.Saves.{Saves}
 use Rattle.wtf_clients.specs.Sounds.{AreSound}
 use Rattle.wtf_clients.specs.Views.{TablesView, watching}
 use Rattle.wtf_clients.proofs.Soundness.{watched_sound}
-use Rattle.wtf_core.specs.Promises.{GoesOn, GoesOnTold, HasPunched, IsCaused, Obeys, Scene, Stores, scene, span_of}
+use Rattle.wtf_core.specs.Promises.{CoreGoesOn, GoesOnTold, HasPunched, IsCaused, Obeys, Scene, Stores, scene, span_of}
 use Rattle.wtf_core.specs.Turns.{IsLine}
 use Rattle.wtf_core.specs.Views.{CoreView}
 use Rattle.wtf_core.proofs.ToldLines.{none_ranges}
@@ -34,7 +34,7 @@ some_is x y is = cc
 module _ {S : Type 0} (kind : StoreKind S) (old : Scene S) (shelf : List S) (keeper : KeeperView) (mid : CoreView) (e : Event) (a : Answer) where
   -- what it promised still, and that its number is watched
   pub record IsAnsweredBy (core : CoreView) : Type 0 where
-    pub goes_on : GoesOn kind old (scene shelf keeper core) e a
+    pub goes_on : CoreGoesOn kind old (scene shelf keeper core) e a
     pub lawful : Obeys kind old (scene shelf keeper core) e a
     pub stored : Stores kind old (scene shelf keeper core) e a
     pub caused : IsCaused kind old (scene shelf keeper core) e a
@@ -46,7 +46,7 @@ module _ {S : Type 0} (kind : StoreKind S) (old : Scene S) (shelf : List S) (kee
     pub number : core.tables.kv.number ≡ mid.tables.kv.number
     pub next_tx : core.tables.next_tx ≡ mid.tables.next_tx
 
-  module _ (on : GoesOn kind old (scene shelf keeper mid) e a) (obeys : Obeys kind old (scene shelf keeper mid) e a)
+  module _ (on : CoreGoesOn kind old (scene shelf keeper mid) e a) (obeys : Obeys kind old (scene shelf keeper mid) e a)
       (stored : Stores kind old (scene shelf keeper mid) e a) (caused : IsCaused kind old (scene shelf keeper mid) e a)
       (told : GoesOnTold kind old (scene shelf keeper mid) e a) (punched : HasPunched kind old (scene shelf keeper mid) e a) (sound : AreSound mid.tables) where
     answered_same : mid.tables.beside.watched ≡ Some mid.tables.kv.number → IsAnsweredBy mid

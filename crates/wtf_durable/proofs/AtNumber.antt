@@ -37,7 +37,7 @@ use Rattle.wtf_changes.specs.Counted.{CanBeCounted}
 use Rattle.wtf_changes.specs.Drafts.{node_change, value_of}
 use Rattle.wtf_changes.specs.Law.{IsPictureOf}
 use Rattle.wtf_changes.specs.Rows.{ChangeRows}
-use Rattle.wtf_changes.specs.Shapes.{AreChanges, IsHeld, IsRegionRow, IsStanding}
+use Rattle.wtf_changes.specs.Shapes.{AreChanges, IsValueHeld, IsRegionRow, IsStanding}
 use Rattle.wtf_changes.specs.Shapes.{IsFileRow as IsFileChange, IsPathRow as IsPathChange}
 use Rattle.wtf_changes.specs.Since.{AreChangesOf, due, last_change, value_change, value_now}
 use Rattle.wtf_changes.proofs.Files.{tied_inode}
@@ -222,15 +222,14 @@ module _ (kv : Store Key Value) (since : ℕ) (s : Settings) (before next : ℕ)
     | inl t ↦
         let f = found_row place_cmp value_change IsRegionRow (i, r) (Some v) ch.regions are.regions.each
         (of.regions i r ∙ named (Region i r) (value_now (m1 (Region i r))) v t e) in
-        subst IsHeld f.value f.has.value
+        subst IsValueHeld f.value f.has.value
     | inr t ↦ was_ok i r v (ap value_now (stays (Region i r) t) ∙ e)
   ]
 
   region_ok : (i : InodeId) (r : ℕ) (row : RegionRow) → r < 4096 → region_in m1 i r ≡ Some row → IsRegion row
   region_ok i r row few e =
       let is = row_is r (m1 (Region i r)) row e in
-      let number = is.number in
-      value_region row (omega (arith, few, number)) (value_ok i r (value_of row) is.value)
+      let number = is.number in value_region row (omega (arith, few, number)) (value_ok i r (value_of row) is.value)
 
   with_ok : (i : InodeId) (n : ℕ) → last_now (m1 (Inode i)) ≡ Some n → IsWideFile (file_with m1 i n)
   with_ok i n e =

@@ -12,7 +12,7 @@ use Rattle.wtf_model.specs.declared.answer.Answer.{Answer}
 use Rattle.wtf_model.specs.declared.answer.Answer.TheVariants as answer
 use Rattle.wtf_model.specs.declared.event.Event.TheVariants as event
 use Rattle.wtf_clients.specs.Outcomes.{SomeOut}
-use Rattle.wtf_core.specs.Promises.{CoreDoes, CoreFails, Stays, scene}
+use Rattle.wtf_core.specs.Promises.{CoreDoes, CoreFails, CoreKeeps, scene}
 use Rattle.wtf_core.specs.Views.{CoreView}
 use Rattle.wtf_durable.specs.declared.fault.DurableFault.{DurableFault}
 use Rattle.wtf_durable.specs.declared.fault.DurableFault.TheVariants as fault
@@ -28,7 +28,7 @@ module _ {S D E : Type 0} (stores : DiskKind S) (kind : DiskKind D) (k k' : Jour
     (scene shelf' (journal_keeper_view kind k') core') event.Save))
     (fails : OnErr s (CoreFails (synced_kind stores) (turn_span kind k k' core) (scene shelf (journal_keeper_view kind k) core)
     (scene shelf' (journal_keeper_view kind k') core') event.Save))
-    (stays : Stays core core') (none : k.short ≡ 0) (was : k.journal.now.failed ≡ false) (disk : D) (disk_is : disk ≡ k'.disk.now)
+    (stays : CoreKeeps core core') (none : k.short ≡ 0) (was : k.journal.now.failed ≡ false) (disk : D) (disk_is : disk ≡ k'.disk.now)
     (old : DurableView) (old_is : ◌≡◌ {A = DurableView} (record { core = core; journal = k.journal.now }) old) where
   pub begin_hands : HandsImages kind k.disk.now disk old.journal.end old.core
   begin_hands =

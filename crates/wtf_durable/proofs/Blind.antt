@@ -11,7 +11,7 @@ use Rattle.wtf_model.specs.declared.answer.Answer.TheVariants as answer
 use Rattle.wtf_model.specs.declared.event.Event.{Event}
 use Rattle.wtf_model.specs.declared.event.Event.TheVariants as event
 use Rattle.wtf_clients.specs.Outcomes.{HasCause, Load, SaveFault, load_of}
-use Rattle.wtf_core.specs.Promises.{GoesOn, IsCaused, Obeys, Scene, Stores, scene, span_of}
+use Rattle.wtf_core.specs.Promises.{CoreGoesOn, IsCaused, Obeys, Scene, Stores, scene, span_of}
 use Rattle.wtf_core.specs.Views.{CoreView}
 
 -- a fault's cause, where only that of a save is another
@@ -44,7 +44,7 @@ module _ {S : Type 0} (kind : StoreKind S) (shelf shelf' : List S) (core core' :
   abbrev is_blind : Scene S
   is_blind = scene shelf' w' core'
 
-  pub goes_blind : GoesOn kind was is e a → GoesOn kind was_blind is_blind e a
+  pub goes_blind : CoreGoesOn kind was is e a → CoreGoesOn kind was_blind is_blind e a
   goes_blind on = record {
     not_closed = on.not_closed;
     inside = on.inside;

@@ -20,7 +20,7 @@ use Rattle.wtf_model.specs.declared.event.Event.{Event}
 use Rattle.wtf_model.specs.declared.event.Event.TheVariants as event
 use Rattle.wtf_clients.specs.Keeping.{KeeperSpan, KeeperTurn, keeper_span}
 use Rattle.wtf_clients.specs.Outcomes.{SaveFault, SomeOut}
-use Rattle.wtf_core.specs.Promises.{CoreDoes, CoreFails, Scene, Stays, scene}
+use Rattle.wtf_core.specs.Promises.{CoreDoes, CoreFails, Scene, CoreKeeps, scene}
 use Rattle.wtf_core.specs.Views.{CoreView}
 use Rattle.wtf_core.proofs.Holding.{handed_one}
 use Rattle.wtf_core.proofs.ToldLines.{none_ranges}
@@ -165,7 +165,7 @@ module _ {S D : Type 0} (stores : DiskKind S) (kind : DiskKind D) (k k' : Journa
     saves_fault rose event.Save b turn is h = save_cause kind k k' core (synced_kind stores) the_span core' none still was whole b turn is
     saves_fault rose f b turn is h = h
 
-    pub handled_by : (e : Event) (a : Answer) → Does e a → Stays core core' → ReachesGate kind k.disk.now handled_old.durable
+    pub handled_by : (e : Event) (a : Answer) → Does e a → CoreKeeps core core' → ReachesGate kind k.disk.now handled_old.durable
         → Handled stores kind handled_old handled_mid e a
     handled_by e a does stays reach =
         let handed = turn_handed kind k k' core (synced_kind stores) the_span core' e a does.kept.turn in
@@ -192,7 +192,7 @@ module _ {S D : Type 0} (stores : DiskKind S) (kind : DiskKind D) (k k' : Journa
         }
 
   -- where a flag rose the line was a save, which punches nothing
-  pub flagged_by : (e : Event) (a : Answer) → Does e a → Stays core core' → (k' ≡ k → ⊥) → HandlesNot stores kind handled_old handled_mid
+  pub flagged_by : (e : Event) (a : Answer) → Does e a → CoreKeeps core core' → (k' ≡ k → ⊥) → HandlesNot stores kind handled_old handled_mid
   flagged_by e a does stays changed = record {
     number = stays.number;
     next_tx = stays.next_tx;
@@ -207,7 +207,7 @@ module _ {S D : Type 0} (stores : DiskKind S) (kind : DiskKind D) (k k' : Journa
       uncollect : (f : Event) (j : ℕ) → f ≡ event.Collect j → f ≢ event.Save
       uncollect f j is saved = absurd (cc (is, saved))
 
-  pub lost_by : (e : Event) → CoreFails (synced_kind stores) (turn_span kind k k' core) by_old by_mid e → Stays core core'
+  pub lost_by : (e : Event) → CoreFails (synced_kind stores) (turn_span kind k k' core) by_old by_mid e → CoreKeeps core core'
       → HandlesNot stores kind handled_old handled_mid
   lost_by e fails stays = record {
     number = stays.number;

@@ -7,7 +7,7 @@ use Rattle.wtf_journal.specs.declared.keeper.JournalKeeper.{JournalKeeper}
 use Rattle.wtf_journal.specs.Follows.{SyncedState, synced_kind}
 use Rattle.wtf_model.specs.declared.answer.Answer.{Answer}
 use Rattle.wtf_model.specs.declared.event.Event.{Event}
-use Rattle.wtf_core.specs.Promises.{CoreDoes, CoreFails, Stays, scene}
+use Rattle.wtf_core.specs.Promises.{CoreDoes, CoreFails, CoreKeeps, scene}
 use Rattle.wtf_core.specs.Views.{CoreView}
 use Rattle.wtf_journal.specs.Keeper.{journal_keeper_view}
 use Rattle.wtf_durable.specs.Handled.{Handled, HandlesNot}
@@ -31,7 +31,7 @@ module _ {S D E : Type 0} (stores : DiskKind S) (kind : DiskKind D) (k k' : Jour
       by (Ok a) did lost = turn_handed kind k k' core (synced_kind stores) (the_span stores kind k k' shelf shelf' core core') core' e a did.kept.turn
       by (Err why) did lost = handed_none kind k k' core lost.untouched
 
-  module _ (stays : Stays core core') (none : k.short ≡ 0) (was : k.journal.now.failed ≡ false) (disk : D) (disk_is : disk ≡ k'.disk.now)
+  module _ (stays : CoreKeeps core core') (none : k.short ≡ 0) (was : k.journal.now.failed ≡ false) (disk : D) (disk_is : disk ≡ k'.disk.now)
       (old : DurableView) (old_is : ◌≡◌ {A = DurableView} (record { core = core; journal = k.journal.now }) old) where
     pub goes_by : DiskGoesOn kind k.disk.now disk
     goes_by = subst (DiskGoesOn kind k.disk.now) (sym disk_is) handed_by.follows.goes_on

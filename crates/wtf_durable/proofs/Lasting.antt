@@ -16,7 +16,7 @@ use Rattle.wtf_meta.specs.Contents.{Told}
 use Rattle.wtf_meta.specs.Maps.{Map}
 use Rattle.wtf_clients.specs.Safe.{LieIn}
 use Rattle.wtf_clients.specs.Sounds.{AreSound}
-use Rattle.wtf_core.specs.Promises.{HasRoom, Watches}
+use Rattle.wtf_core.specs.Promises.{CoreHasRoom, Watches}
 use Rattle.wtf_core.specs.Standing.{StandsFor}
 use Rattle.wtf_core.specs.Telling.{TellsCore}
 use Rattle.wtf_core.specs.Views.{CoreView}
@@ -72,7 +72,7 @@ module _ {S D : Type 0} (stores : DiskKind S) (kind : DiskKind D) (store_laws : 
   goes : Carries stores mid.shelf then new.durable.core
   goes = carries stores mid.shelf then new.durable.core handled.stays.sound handled.goes_on.inside.scans noted.notes.changes noted.records
 
-  module _ (m : Machine) (stands : StandsDurably stores kind old m) (room : HasRoom new.durable.core) where
+  module _ (m : Machine) (stands : StandsDurably stores kind old m) (room : CoreHasRoom new.durable.core) where
     abbrev had : List (List ℕ)
     had = stands.journaled.bodies ++ handled.saved
 

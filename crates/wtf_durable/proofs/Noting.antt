@@ -14,15 +14,6 @@ module _ {D : Type 0} (kind : DiskKind D) where
   pub goes_same : (disk : D) → DiskGoesOn kind disk disk
   goes_same disk = record { faults = omega arith; size = λ f. omega arith; tells = refl }
 
-  -- nothing was handed over
-  pub hands_still : (disk : D) (end : ℕ) (core : CoreView) → HandsImages kind disk disk end core
-  hands_still disk end core = record {
-    images = [];
-    each = λ image there. absurd (let below = there.1 in omega (arith, below));
-    goes_on = goes_same disk;
-    moments = λ tells stands. stays kind disk _;
-  }
-
   -- nothing is added
   notes_same : (disk : D) (end : ℕ) (old new : CoreView) → new.tables.kv.number ≡ old.tables.kv.number → new.tables.next_tx ≡ old.tables.next_tx
       → Notes kind disk disk end old new

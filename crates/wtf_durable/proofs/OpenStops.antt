@@ -16,7 +16,7 @@ use Rattle.wtf_imagefmt.specs.Savable.{IsSavable}
 use Rattle.wtf_imagefmt.specs.Saving.{IsSaveOf, Says, header_of}
 use Rattle.wtf_imagefmt.specs.Shown.{shown, shown_at}
 use Rattle.wtf_journal.specs.Follows.{SyncedState, synced_kind, synced_laws}
-use Rattle.wtf_journal.specs.Held.{Held, IsOpened, IsTextOf, ends_in_changes, held_by, renewal}
+use Rattle.wtf_journal.specs.Held.{Held, IsJournalOpened, IsTextOf, ends_in_changes, held_by, renewal}
 use Rattle.wtf_journal.specs.Keeper.{StandsAt}
 use Rattle.wtf_journal.specs.Meant.{MeansOneOf, StandsForImage, means_on}
 use Rattle.wtf_journal.specs.Moments.{weaker}
@@ -35,7 +35,7 @@ use Rattle.wtf_core.specs.Promises.{Watches, span_of}
 use Rattle.wtf_core.specs.Standing.{StandsFor}
 use Rattle.wtf_core.specs.Views.{CoreView}
 use Rattle.wtf_core.proofs.Taking.{same_rows}
-use Rattle.wtf_serve.specs.Beginnings.{IsReady}
+use Rattle.wtf_serve.specs.Beginnings.{CanBegin}
 use Rattle.wtf_serve.specs.Openings.{IsOpeningOf, Opening, Opens, StartsFrom, first}
 use Rattle.wtf_serve.proofs.Keeping.{text_some}
 use Rattle.wtf_serve.proofs.Picturing.{starts_on}
@@ -160,7 +160,7 @@ module _ {S D : Type 0} (stores : DiskKind S) (kind : DiskKind D) (store_laws : 
 
     -- what its records stand for
     module _ (tells : (kind.view before).tells ≡ true) where
-      abbrev opened : IsOpened kind before after found.journal.end is.image
+      abbrev opened : IsJournalOpened kind before after found.journal.end is.image
       opened = is.journal tells
 
       abbrev had : List (List ℕ)
@@ -224,7 +224,7 @@ module _ {S D : Type 0} (stores : DiskKind S) (kind : DiskKind D) (store_laws : 
 
     -- ---- what it is then
     record Begins (s : DurableScene S D) : Type 0 where
-      ready : IsReady (begun_engine (synced_kind stores)) opening s.shelf s.durable.core
+      ready : CanBegin (begun_engine (synced_kind stores)) opening s.shelf s.durable.core
       whole : s.durable.journal.failed ≡ false
       reach : ReachesGate kind s.disk s.durable
       journaled : (kind.view before).tells ≡ true → TellsAll (synced_kind stores) s.shelf → (t : Tree)
@@ -241,8 +241,7 @@ module _ {S D : Type 0} (stores : DiskKind S) (kind : DiskKind D) (store_laws : 
       image_is : (n : ℕ) → IsImageAt core.tables core.settings n is.image → HavePicture (shown core.tables.kv) core.settings core.tables.kv.number (had tells)
       image_is n at =
           let text : HasText at.rows opening.bytes = subst (λ (b : List ℕ). HasText at.rows b) (sym is.core.bytes_are) at.text in
-          let o : IsOpeningOf opening.bytes opening =
-          opening_of asked opening.bytes opening (λ none. some (sym is.core.bytes_are ∙ none)) is.core.opens in
+          let o : IsOpeningOf opening.bytes opening = opening_of asked opening.bytes opening (λ none. some (sym is.core.bytes_are ∙ none)) is.core.opens in
           let same : o.rows ≡ at.rows = same_rows o.rows at.rows opening.bytes o.text text in
           let number : core.tables.kv.number ≡ n =
           is.core.ready.number ∙ o.number ∙ ap (λ (x : ImageRows). x.header.installs) same ∙ ap (λ h. h.installs) at.header in
@@ -328,7 +327,7 @@ module _ {S D : Type 0} (stores : DiskKind S) (kind : DiskKind D) (store_laws : 
       whole_then : new.journal.failed ≡ false
       whole_then = ap (λ j. j.failed) journal ∙ begin.whole
 
-      ready_then : IsReady (durable_engine stores) opening shelf' new
+      ready_then : CanBegin (durable_engine stores) opening shelf' new
       ready_then = ready_watched stores opening shelf' begun.core new watches whole_then begin.ready
 
       end_is : new.journal.end ≡ begun.journal.end

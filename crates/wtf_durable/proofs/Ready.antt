@@ -24,7 +24,7 @@ use Rattle.wtf_meta.specs.Maps.{Map}
 use Rattle.wtf_meta.specs.Contents.{Told}
 use Rattle.wtf_region.specs.Inside.{is_inside}
 use Rattle.wtf_clients.specs.Named.{has_copies}
-use Rattle.wtf_gc.specs.Extents.{covers}
+use Rattle.wtf_gc.specs.Extents.{extents_cover}
 use Rattle.wtf_gc.specs.Frees.{lie_in}
 use Rattle.wtf_model.specs.declared.answer.Answer.TheVariants as answer
 use Rattle.wtf_model.specs.declared.event.Event.TheVariants as event
@@ -39,7 +39,7 @@ use Rattle.wtf_core.specs.Promises.{Watches, span_of}
 use Rattle.wtf_core.specs.Standing.{StandsFor}
 use Rattle.wtf_core.specs.Telling.{IsToldLine, IsWide, IsWithin, TellsCore, stores_of}
 use Rattle.wtf_core.specs.Views.{CoreView}
-use Rattle.wtf_serve.specs.Beginnings.{IsReady}
+use Rattle.wtf_serve.specs.Beginnings.{CanBegin}
 use Rattle.wtf_serve.specs.Cores.{engine}
 use Rattle.wtf_serve.specs.Engines.{Engine}
 use Rattle.wtf_serve.specs.Openings.{IsTakenOver, Opening, StartsFrom, first}
@@ -91,14 +91,14 @@ begun_engine kind = record {
   wide = IsWide kind;
   within = IsWithin kind;
   kept = λ keeper core. HoldsKept keeper core.settings core.tables ⊎ (keeper.held ≡ Some []);
-  freed = λ core. covers core.tables.beside.gc.freed;
+  freed = λ core. extents_cover core.tables.beside.gc.freed;
   quiet = λ s shelf core. ⊤;
   collected = λ k shelf core. ⊤;
 }
 
 module _ {S : Type 0} (kind : StoreKind S) (opening : Opening) where
   -- one that was loaded or is new
-  pub ready_same : (shelf : List S) (core : CoreView) → IsReady (engine kind) opening shelf core → IsReady (begun_engine kind) opening shelf core
+  pub ready_same : (shelf : List S) (core : CoreView) → CanBegin (engine kind) opening shelf core → CanBegin (begun_engine kind) opening shelf core
   ready_same shelf core r = record {
     sound = record { not_closed = r.sound.not_closed; tables = r.sound.tables; servers = r.sound.servers; inside = r.sound.inside };
     settings = r.settings;
@@ -119,7 +119,7 @@ module _ {S : Type 0} (kind : StoreKind S) (opening : Opening) where
 -- and behind the first save of one that had nothing
 module _ {S D : Type 0} (stores : DiskKind S) (kind : DiskKind D) (laws : KindLaws (synced_kind stores)) (opening : Opening)
     (shelf shelf' : List (SyncedState S)) (disk disk' : D) (old new : DurableView) (n : ℕ) (empty : opening.bytes ≡ [])
-    (r : IsReady (engine (synced_kind stores)) opening shelf old.core)
+    (r : CanBegin (engine (synced_kind stores)) opening shelf old.core)
     (saved : Handled stores kind (durable_scene shelf disk old) (durable_scene shelf' disk' new) event.Save (answer.Saved n)) where
   abbrev k : StoreKind (SyncedState S)
   k = synced_kind stores
@@ -149,12 +149,12 @@ module _ {S D : Type 0} (stores : DiskKind S) (kind : DiskKind D) (laws : KindLa
       (answer.Saved n)
   line_told tells t is = saved.told (telling tells t is) (first opening t) (started t is)
 
-  unfreed_then : (p : Place) → covers new.core.tables.beside.gc.freed p ≡ false
+  unfreed_then : (p : Place) → extents_cover new.core.tables.beside.gc.freed p ≡ false
   unfreed_then p =
       saved.punched.punches.counts p ∙ ap (λ b. b || lie_in saved.punched.punches.ranges p) (r.unfreed p)
       ∙ ap (λ l. lie_in l p) saved.punched.punches.are.0
 
-  pub ready_saved : IsReady (begun_engine k) opening shelf' new.core
+  pub ready_saved : CanBegin (begun_engine k) opening shelf' new.core
   ready_saved = record {
     sound = record {
       not_closed = saved.goes_on.not_closed;
@@ -195,14 +195,14 @@ module _ {S D : Type 0} (stores : DiskKind S) (kind : DiskKind D) (laws : KindLa
 -- ---- watched then
 module _ {S : Type 0} (stores : DiskKind S) (opening : Opening) (shelf : List (SyncedState S)) (core : CoreView) (tables : TablesView)
     (saves : Saves core.tables tables (watching core.tables.beside core.tables.kv.number)) (journal : JournalView) (whole : journal.failed ≡ false)
-    (r : IsReady (begun_engine (synced_kind stores)) opening shelf core) where
+    (r : CanBegin (begun_engine (synced_kind stores)) opening shelf core) where
   abbrev kind : StoreKind (SyncedState S)
   kind = synced_kind stores
 
   abbrev told : Told
   told = byte_at kind shelf
 
-  ready_behind : IsReady (durable_engine stores) opening shelf (record { core = record core { tables = tables }; journal = journal })
+  ready_behind : CanBegin (durable_engine stores) opening shelf (record { core = record core { tables = tables }; journal = journal })
   ready_behind = record {
     sound = record {
       not_closed = r.sound.not_closed;
@@ -216,7 +216,7 @@ module _ {S : Type 0} (stores : DiskKind S) (opening : Opening) (shelf : List (S
     number = saves.number ∙ r.number;
     next_tx = saves.next_tx ∙ r.next_tx;
     up = r.up;
-    unfreed = λ p. ap (λ (b : BesideView). covers b.gc.freed p) saves.beside ∙ r.unfreed p;
+    unfreed = λ p. ap (λ (b : BesideView). extents_cover b.gc.freed p) saves.beside ∙ r.unfreed p;
     kept = λ keeper held. ⊎_elim
         (λ kept. inl (kept_behind core.tables tables r.sound.tables saves core.settings keeper kept))
         (λ none. inr none)
@@ -242,8 +242,8 @@ module _ {S : Type 0} (stores : DiskKind S) (opening : Opening) (shelf : List (S
   }
 
 pub ready_watched : {S : Type 0} (stores : DiskKind S) (opening : Opening) (shelf : List (SyncedState S)) (core : CoreView) (new : DurableView)
-    → Watches core new.core → new.journal.failed ≡ false → IsReady (begun_engine (synced_kind stores)) opening shelf core
-    → IsReady (durable_engine stores) opening shelf new
+    → Watches core new.core → new.journal.failed ≡ false → CanBegin (begun_engine (synced_kind stores)) opening shelf core
+    → CanBegin (durable_engine stores) opening shelf new
 ready_watched stores opening shelf core new watches whole r =
-    subst (λ (c : CoreView). IsReady (durable_engine stores) opening shelf (record { core = c; journal = new.journal })) (sym watches.rest)
+    subst (λ (c : CoreView). CanBegin (durable_engine stores) opening shelf (record { core = c; journal = new.journal })) (sym watches.rest)
     (ready_behind stores opening shelf core new.core.tables watches.tables new.journal whole r)

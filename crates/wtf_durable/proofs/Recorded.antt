@@ -27,8 +27,8 @@ use Rattle.wtf_clients.specs.ScanTurns.{CollectTurn, PieceTurn, ScanTurn}
 use Rattle.wtf_clients.specs.Sounds.{AreSound}
 use Rattle.wtf_clients.specs.Views.{BesideView, TablesView, watching}
 use Rattle.wtf_clients.proofs.SafeLaws.{garbage_unnamed}
-use Rattle.wtf_core.specs.Named.{IsBare, IsFull, IsInside}
-use Rattle.wtf_core.specs.Promises.{GoesOn, HasPunched, IsLawful, Scene, scene, span_of}
+use Rattle.wtf_core.specs.Named.{IsBareCore, IsFull, IsInside}
+use Rattle.wtf_core.specs.Promises.{CoreGoesOn, HasPunched, IsCoreLawful, Scene, scene, span_of}
 use Rattle.wtf_core.specs.Quiet.{Stage, next_stage}
 use Rattle.wtf_core.specs.Standing.{StandsFor}
 use Rattle.wtf_core.specs.Telling.{GoesOnQuietly, IsToldLine, KeepsImages, TellsCore}
@@ -94,7 +94,7 @@ module _ {S : Type 0} (kind : StoreKind S) (shelf : List S) (mid : CoreView) (ta
     scans = lie_behind (size_in kind shelf) h.scans;
   }
 
-  pub bare_behind : IsBare mid → IsBare behind
+  pub bare_behind : IsBareCore mid → IsBareCore behind
   bare_behind h = names_behind mid.tables tables sound saves any_byte no_slice refl h
 
   pub full_behind : IsFull mid → IsFull behind
@@ -123,7 +123,7 @@ module _ {S : Type 0} (kind : StoreKind S) (shelf : List S) (mid : CoreView) (ta
 
   -- ---- what it promised
   module _ (old : Scene S) (keeper : KeeperView) (e : Event) (a : Answer) where
-    pub goes_behind : GoesOn kind old (scene shelf keeper mid) e a → GoesOn kind old (scene shelf keeper behind) e a
+    pub goes_behind : CoreGoesOn kind old (scene shelf keeper mid) e a → CoreGoesOn kind old (scene shelf keeper behind) e a
     goes_behind on = record {
       not_closed = on.not_closed;
       inside = inside_behind on.inside;
@@ -192,7 +192,7 @@ module _ {S : Type 0} (kind : StoreKind S) (shelf : List S) (mid : CoreView) (ta
 
       -- over a keeper that does not tell what it holds
       pub lawful_behind : (m : Machine) → (e ≡ event.Save → mid.tables.kv.number ≡ old.core.tables.kv.number) → (old.keeper.tells ≡ true → ⊥)
-          → IsLawful kind old (scene shelf keeper mid) m e a → IsLawful kind old (scene shelf keeper behind) m e a
+          → IsCoreLawful kind old (scene shelf keeper mid) m e a → IsCoreLawful kind old (scene shelf keeper behind) m e a
       lawful_behind m unsaved blind h = record {
         rests = λ idle none n is said. absurd (moved (unsaved is));
         left = λ k n had is said tells. absurd (blind tells);

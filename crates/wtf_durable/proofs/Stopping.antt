@@ -32,7 +32,7 @@ use Rattle.wtf_clients.proofs.Later.{Stands-later}
 use Rattle.wtf_clients.proofs.Lives.{number_live}
 use Rattle.wtf_clients.proofs.OffStanding.{stands_where}
 use Rattle.wtf_clients.proofs.Punched.{tells_punched}
-use Rattle.wtf_core.specs.Promises.{HasRoom, IsLawful, span_of}
+use Rattle.wtf_core.specs.Promises.{CoreHasRoom, IsCoreLawful, span_of}
 use Rattle.wtf_core.specs.Views.{CoreView}
 use Rattle.wtf_core.proofs.Watching.{watched_pinned}
 use Rattle.wtf_durable.specs.Handled.{AreChanges, Handled, HandlesNot, Notes}
@@ -145,7 +145,7 @@ module _ {S D : Type 0} (stores : DiskKind S) (kind : DiskKind D) (store_laws : 
     abbrev then : CoreView
     then = mid.durable.core
 
-    module _ (m : Machine) (stands : StandsDurably stores kind old m) (room : HasRoom new.durable.core) where
+    module _ (m : Machine) (stands : StandsDurably stores kind old m) (room : CoreHasRoom new.durable.core) where
       spares : Spares old new.shelf
       spares = record {
         ranges = handled.punched.punches.ranges;
@@ -172,7 +172,7 @@ module _ {S D : Type 0} (stores : DiskKind S) (kind : DiskKind D) (store_laws : 
       old_have : HavePicture (shown before.tables.kv) before.settings before.tables.kv.number had
       old_have = saved_have before stands.journaled.bodies (journaled_has kind old.disk old.durable stands.journaled) savable e a handled.saved handled.saved_is
 
-      pub lawful : IsLawful (synced_kind stores) (core_scene kind old) (core_scene kind mid) m e a
+      pub lawful : IsCoreLawful (synced_kind stores) (core_scene kind old) (core_scene kind mid) m e a
       lawful = handled.lawful stands.shelf m stands.machine
 
       -- the map there is what it was

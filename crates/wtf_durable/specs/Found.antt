@@ -5,7 +5,7 @@ use Rattle.wtf_base.specs.declared.settings.Settings.{Settings}
 use Rattle.wtf_dev.specs.Disk.{DiskKind}
 use Rattle.wtf_image.specs.declared.error.LoadError.TheVariants as error
 use Rattle.wtf_journal.specs.Follows.{SyncedState, synced_kind}
-use Rattle.wtf_journal.specs.Held.{IsOpened}
+use Rattle.wtf_journal.specs.Held.{IsJournalOpened}
 use Rattle.wtf_model.specs.declared.answer.Answer.TheVariants as answer
 use Rattle.wtf_model.specs.declared.event.Event.TheVariants as event
 use Rattle.wtf_serve.specs.Beginnings.{IsOpenedBy}
@@ -28,7 +28,7 @@ unopened_by (cannot.Image why) = unopened.Image why
 pub record IsFoundBy {S D : Type 0} (stores : DiskKind S) (kind : DiskKind D) (asked : Settings) (shelf : List (SyncedState S)) (disk : D × D)
     (d : DurableView) (fresh : Bool) : Type 0 where
   pub image : List ℕ
-  pub journal : (kind.view disk.0).tells ≡ true → IsOpened kind disk.0 disk.1 d.journal.end image
+  pub journal : (kind.view disk.0).tells ≡ true → IsJournalOpened kind disk.0 disk.1 d.journal.end image
   pub core : IsOpenedBy (engine (synced_kind stores)) asked image shelf d.core
   pub fresh_is : MatchBool fresh (image ≡ []) (image ≢ [])
   pub whole : d.journal.failed ≡ false

@@ -13,7 +13,7 @@ use Rattle.wtf_journal.specs.Meant.{MeansOneOf}
 use Rattle.wtf_journal.specs.Records.{HasBodies, RestsAt}
 use Rattle.wtf_model.specs.declared.answer.Answer.{Answer}
 use Rattle.wtf_model.specs.declared.event.Event.{Event}
-use Rattle.wtf_core.specs.Promises.{GoesOn, Obeys, Stores, IsCaused, GoesOnTold, HasPunched, Stays, span_of}
+use Rattle.wtf_core.specs.Promises.{CoreGoesOn, Obeys, Stores, IsCaused, GoesOnTold, HasPunched, CoreKeeps, span_of}
 use Rattle.wtf_core.specs.Turns.{IsLine}
 use Rattle.wtf_core.specs.Views.{CoreView}
 use Rattle.wtf_durable.specs.Promises.{IsImageBody, Records, changes_body}
@@ -31,8 +31,8 @@ module _ {S D : Type 0} (stores : DiskKind S) (kind : DiskKind D) where
   -- The core answered, and the journal has the image where the line saved.
   pub record Handled (old mid : DurableScene S D) (e : Event) (a : Answer) : Type 0 where
     pub line : IsLine (synced_kind stores) (span_of (core_scene kind old) (core_scene kind mid)) old.durable.core mid.durable.core e a
-    pub stays : Stays old.durable.core mid.durable.core
-    pub goes_on : GoesOn (synced_kind stores) (core_scene kind old) (core_scene kind mid) e a
+    pub stays : CoreKeeps old.durable.core mid.durable.core
+    pub goes_on : CoreGoesOn (synced_kind stores) (core_scene kind old) (core_scene kind mid) e a
     pub lawful : Obeys (synced_kind stores) (core_scene kind old) (core_scene kind mid) e a
     pub stored : Stores (synced_kind stores) (core_scene kind old) (core_scene kind mid) e a
     pub caused : IsCaused (synced_kind stores) (core_scene kind old) (core_scene kind mid) e a

@@ -11,7 +11,7 @@ use Rattle.wtf_model.specs.declared.event.Event.TheVariants as event
 use Rattle.wtf_model.specs.Machines.{Machine}
 use Rattle.wtf_model.specs.Steps.{May, after}
 use Rattle.wtf_model.specs.Tree.{Tree}
-use Rattle.wtf_core.specs.Promises.{GoesOn, Obeys, Stores, IsCaused, GoesOnTold, HasPunched, HasRoom, IsRecordOf, span_of}
+use Rattle.wtf_core.specs.Promises.{CoreGoesOn, Obeys, Stores, IsCaused, GoesOnTold, HasPunched, CoreHasRoom, IsRecordOf, span_of}
 use Rattle.wtf_core.specs.Turns.{IsLine}
 use Rattle.wtf_core.specs.Views.{CoreView}
 use Rattle.wtf_durable.specs.Journaled.{StandsDurably}
@@ -61,7 +61,7 @@ pub record DurableStays {S D : Type 0} (stores : DiskKind S) (kind : DiskKind D)
 pub record DurableDoes {S D : Type 0} (stores : DiskKind S) (kind : DiskKind D) (old new : DurableScene S D) (e : Event) (a : Answer) : Type 0 where
   pub line : DurableLine stores kind old new e a
   pub stays : DurableStays stores kind old new
-  pub goes_on : GoesOn (synced_kind stores) (core_scene kind old) (core_scene kind new) e a
+  pub goes_on : CoreGoesOn (synced_kind stores) (core_scene kind old) (core_scene kind new) e a
   pub lawful : Obeys (synced_kind stores) (core_scene kind old) (core_scene kind new) e a
   pub stored : Stores (synced_kind stores) (core_scene kind old) (core_scene kind new) e a
   pub caused : IsCaused (synced_kind stores) (core_scene kind old) (core_scene kind new) e a
@@ -76,14 +76,14 @@ MayHave m e (Err why) t = (a : Answer) × May m e a × (t ≡ (after m e a).now)
 -- A stop at any moment of the event leaves the tree before it, or the one behind it.
 pub record Survives {S D E : Type 0} (stores : DiskKind S) (kind : DiskKind D) (old new : DurableScene S D) (e : Event) (r : Result Answer E)
     : Type 0 where
-  pub during : (m : Machine) → StandsDurably stores kind old m → HasRoom new.durable.core
+  pub during : (m : Machine) → StandsDurably stores kind old m → CoreHasRoom new.durable.core
       → (left : Leftover) → StopIn stores kind old new left → (t : Tree) × ((t ≡ m.now) ⊎ MayHave m e r t) × LeavesTree left t
   -- and so does one behind it, before any other call
-  pub behind : (m : Machine) → StandsDurably stores kind old m → HasRoom new.durable.core
+  pub behind : (m : Machine) → StandsDurably stores kind old m → CoreHasRoom new.durable.core
       → (left : Leftover) → StopNow stores kind new left → (t : Tree) × ((t ≡ m.now) ⊎ MayHave m e r t) × LeavesTree left t
 
 -- Behind an event that was answered the store stands for the machine with that answer, and a stop leaves its tree.
 pub record Lasts {S D : Type 0} (stores : DiskKind S) (kind : DiskKind D) (old new : DurableScene S D) (e : Event) (a : Answer) : Type 0 where
-  pub stands : (m : Machine) → StandsDurably stores kind old m → HasRoom new.durable.core → StandsDurably stores kind new (after m e a)
-  pub leaves : (m : Machine) → StandsDurably stores kind old m → HasRoom new.durable.core
+  pub stands : (m : Machine) → StandsDurably stores kind old m → CoreHasRoom new.durable.core → StandsDurably stores kind new (after m e a)
+  pub leaves : (m : Machine) → StandsDurably stores kind old m → CoreHasRoom new.durable.core
       → (left : Leftover) → StopNow stores kind new left → LeavesTree left (after m e a).now

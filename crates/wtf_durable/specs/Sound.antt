@@ -6,7 +6,7 @@ use Rattle.wtf_dev.specs.Sums.{TellsAll}
 use Rattle.wtf_journal.specs.Follows.{SyncedState, synced_kind}
 use Rattle.wtf_replica.specs.Bytes.{byte_at}
 use Rattle.wtf_replica.specs.Downs.{is_down}
-use Rattle.wtf_gc.specs.Extents.{covers}
+use Rattle.wtf_gc.specs.Extents.{extents_cover}
 use Rattle.wtf_core.specs.Keeping.{HoldsKept}
 use Rattle.wtf_core.specs.Named.{IsInside, IsBased, IsFull}
 use Rattle.wtf_core.specs.Standing.{StandsFor}
@@ -42,7 +42,7 @@ durable_engine stores = record {
   wide = λ shelf d. IsWide (synced_kind stores) shelf d.core;
   within = λ shelf d. IsWithin (synced_kind stores) shelf d.core;
   kept = λ keeper d. HoldsKept keeper d.core.settings d.core.tables ⊎ (keeper.held ≡ Some []);
-  freed = λ d. covers d.core.tables.beside.gc.freed;
+  freed = λ d. extents_cover d.core.tables.beside.gc.freed;
   quiet = λ s shelf d. ⊤;
   collected = λ k shelf d. ⊤;
 }

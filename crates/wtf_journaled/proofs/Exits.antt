@@ -24,8 +24,8 @@ use Rattle.wtf_model.specs.Machines.{Machine}
 use Rattle.wtf_model.specs.Tree.{Tree}
 use Rattle.wtf_serve.specs.declared.service.Stop.{Stop}
 use Rattle.wtf_serve.specs.declared.service.Stop.TheVariants as stop
-use Rattle.wtf_serve.specs.Endings.{Devices, IsKept, IsNextLine, Served, stop_status}
-use Rattle.wtf_serve.specs.Beginnings.{IsReady}
+use Rattle.wtf_serve.specs.Endings.{Devices, IsKeeperKept, IsNextLine, Served, stop_status}
+use Rattle.wtf_serve.specs.Beginnings.{CanBegin}
 use Rattle.wtf_serve.specs.Logs.{Log, first_line, last}
 use Rattle.wtf_serve.specs.Openings.{Opening, StartsFrom, first}
 use Rattle.wtf_serve.specs.Passes.{Input, IsQuiet, PassIs, input, step_of}
@@ -40,7 +40,7 @@ use Rattle.wtf_serve.proofs.Keeping.{text_some}
 use Rattle.wtf_serve.proofs.Leaving.{KeepsWithin}
 use Rattle.wtf_serve.proofs.RanLaws.{longer, so_far_more}
 use Rattle.wtf_serve.proofs.Telling.{told_front, told_more}
-use Rattle.wtf_core.specs.Promises.{HasRoom}
+use Rattle.wtf_core.specs.Promises.{CoreHasRoom}
 use Rattle.wtf_core.proofs.FirstStores.{kept_within}
 use Rattle.wtf_durable.specs.Journaled.{StandsDurably}
 use Rattle.wtf_durable.specs.Stops.{LeavesTree, Leftover}
@@ -50,7 +50,7 @@ use Rattle.wtf_durable.proofs.Stopping.{durable_leaves}
 use Rattle.wtf_journaled.specs.declared.halt.Halt.{Halt}
 use Rattle.wtf_journaled.specs.declared.halt.Halt.TheVariants as halt
 use Rattle.wtf_journaled.specs.Breaks.{BreaksOff, MayGrow, PassBreaks, halt_status, stop_of, text_status}
-use Rattle.wtf_journaled.specs.Engine.{JournaledHand, JournaledState, in_hand, journaled, journaled_engine, scene_of}
+use Rattle.wtf_journaled.specs.Engine.{JournaledHand, JournaledState, journaled_hand, journaled, journaled_engine, scene_of}
 use Rattle.wtf_journaled.proofs.LineLaws.{disk_same}
 use Rattle.wtf_journaled.specs.Runs.{BeginsSafely, HasBegun, IsJournaledRun, IsOfNextLine, JournaledDevices, LastsBehind, StopBehind, blind_devices, on_devices}
 
@@ -106,7 +106,7 @@ module _ {S D : Type 0} (stores : DiskKind S) (kind : DiskKind D) (store_laws : 
   module _ (asked : Settings) (old : JournaledDevices S D) (now : JournaledHand S D) (input' : Input) (sink' : SinkView) (shelf' : List (SyncedState S))
       (state' : JournaledState D) (bad : Bool) (j : Journaling asked old now bad) (on : DiskGoesOn kind now.state.disk state'.disk) where
     abbrev next : JournaledHand S D
-    next = in_hand kind input' sink' shelf' state'
+    next = journaled_hand kind input' sink' shelf' state'
 
     abbrev start : Devices (SyncedState S)
     start = blind_devices kind (on_devices old.source old.sink j.shelf j.disk)
@@ -118,8 +118,7 @@ module _ {S D : Type 0} (stores : DiskKind S) (kind : DiskKind D) (store_laws : 
     goes_then = disk_on j.disk now.state.disk state'.disk j.on on
 
     pub journaling_on : (more : Bool) → PassIs (journaled_engine stores kind) now next (Ok (Some more)) → Journaling asked old next (bad || more)
-    journaling_on more pass =
-        journaling asked old next (bad || more) j.shelf j.disk j.opening j.begun
+    journaling_on more pass = journaling asked old next (bad || more) j.shelf j.disk j.opening j.begun
         (going_on (journaled_engine stores kind) laws j.opening start now next bad j.going more pass) goes_then
 
     next_line : (b : BreaksOff stores kind now next) → IsNextLine old.source.rest j.going.log.lines b.line
@@ -137,7 +136,7 @@ module _ {S D : Type 0} (stores : DiskKind S) (kind : DiskKind D) (store_laws : 
       told_now : (kind.view now.state.disk).tells ≡ true
       told_now = j.on.tells ∙ j.begun.goes_on.tells ∙ told
 
-      room : HasRoom now.state.durable.core
+      room : CoreHasRoom now.state.durable.core
       room = (
         let most = j.going.number in omega (arith, most, low),
         let most = j.going.next_tx in omega (arith, most, few),
@@ -170,7 +169,7 @@ module _ {S D : Type 0} (stores : DiskKind S) (kind : DiskKind D) (store_laws : 
           let cut = pass.came.cut in
           let then = so_far_more (journaled_engine stores kind) laws j.opening start.stock j.going.log (step_of now next) j.going.so_far pass.came.line
           cut.answer cut.is pass.keeper.faults in
-          let top : HasRoom state'.durable.core = (
+          let top : CoreHasRoom state'.durable.core = (
             let most = j.going.number in let more = cut.is.goes_on.number in omega (arith, most, low, more),
             let most = j.going.next_tx in let more = cut.is.goes_on.next_tx in omega (arith, most, few, more),
           ) in
@@ -318,7 +317,7 @@ module _ {S D : Type 0} (stores : DiskKind S) (kind : DiskKind D) (store_laws : 
     stands_first all told t from =
         o.stands all told t (subst (λ (b : List ℕ). StartsFrom (byte_at (synced_kind stores) shelf) b t) o.opened.bytes_are from)
 
-    ready : IsReady (journaled_engine stores kind) opening shelf (journaled d disk)
+    ready : CanBegin (journaled_engine stores kind) opening shelf (journaled d disk)
     ready =
         let r = o.opened.ready in
         record {
@@ -346,7 +345,7 @@ module _ {S D : Type 0} (stores : DiskKind S) (kind : DiskKind D) (store_laws : 
           taken = r.taken;
         }
 
-    unhanded : IsKept (λ images. ⊤) keeper keeper
+    unhanded : IsKeeperKept (λ images. ⊤) keeper keeper
     unhanded = record { held = λ bytes is. is; nothing = tt }
 
     stays : KeeperGoesOn keeper keeper
@@ -358,9 +357,9 @@ module _ {S D : Type 0} (stores : DiskKind S) (kind : DiskKind D) (store_laws : 
     -- behind its first line
     pub journaling_first : (sink' : SinkView) (text : List ℕ) → text ≡ settings_line d.core.settings d.core.tables.kv.number
         → ((taken : List ℕ) → old.sink.taken ≡ Some taken → sink'.taken ≡ Some (taken ++ text)) → sink'.faults ≡ old.sink.faults
-        → Journaling asked old (in_hand kind (input old.source (record { bytes = []; count = 0; ended = false })) sink' shelf (journaled d disk)) false
+        → Journaling asked old (journaled_hand kind (input old.source (record { bytes = []; count = 0; ended = false })) sink' shelf (journaled d disk)) false
     journaling_first sink' text is wrote still =
-        let at = in_hand kind (input old.source (record { bytes = []; count = 0; ended = false })) sink' shelf (journaled d disk) in
+        let at = journaled_hand kind (input old.source (record { bytes = []; count = 0; ended = false })) sink' shelf (journaled d disk) in
         journaling asked old at false shelf disk opening begun
         (going_none (journaled_engine stores kind) laws opening begin sink' keeper (journaled d disk) ready (room_of asked opening.bytes opening begun.opens)
         (begins_of (size_in (synced_kind stores) shelf) asked opening.bytes opening begun.opens ready.taken) stays (λ bytes held. held)

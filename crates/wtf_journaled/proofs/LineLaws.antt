@@ -14,12 +14,12 @@ use Rattle.wtf_model.specs.Lines.{Line, after_line}
 use Rattle.wtf_core.specs.Saves.{SaveTurn}
 use Rattle.wtf_core.specs.Named.{IsBased, IsFull}
 use Rattle.wtf_core.specs.Outcomes.{HasCause, SaveFault, load_of}
-use Rattle.wtf_core.specs.Promises.{HasRoom, span_of}
+use Rattle.wtf_core.specs.Promises.{CoreHasRoom, span_of}
 use Rattle.wtf_core.specs.Standing.{StandsFor}
 use Rattle.wtf_core.specs.Turns.{IsLine}
 use Rattle.wtf_core.specs.Views.{CoreView, TablesView}
 use Rattle.wtf_serve.specs.Answering.{IsBad}
-use Rattle.wtf_serve.specs.Engines.{GoesOn, IsAnswer, Keeps, Obeys, Punches, Saves, Step, Tells, is_save_event, step}
+use Rattle.wtf_serve.specs.Engines.{StateGoesOn, IsAnswer, HandsOnlySaves, Obeys, LinePunches, Saves, Step, EngineTells, is_save_event, step}
 use Rattle.wtf_serve.specs.Stocks.{KeeperGoesOn, KeeperStays, Stock, stock}
 use Rattle.wtf_serve.proofs.LineLaws.{bad_punches}
 use Rattle.wtf_serve.proofs.LineLaws as of_core
@@ -59,7 +59,7 @@ module _ {S D : Type 0} (stores : DiskKind S) (kind : DiskKind D) (old new : Dur
   t = step before behind (journaled old.durable old.disk) (journaled new.durable new.disk)
 
   module _ (does : DurableDoes stores kind old new e a) (goes : DiskGoesOn kind old.disk new.disk) where
-    event_goes_on : GoesOn (journaled_engine stores kind) t (Ok e) a
+    event_goes_on : StateGoesOn (journaled_engine stores kind) t (Ok e) a
     event_goes_on = record {
       sound = record { durable = does.stays.sound; reach = does.stays.reach };
       settings = does.stays.settings;
@@ -81,7 +81,7 @@ module _ {S D : Type 0} (stores : DiskKind S) (kind : DiskKind D) (old new : Dur
           stands = record {
             core = λ all. law.event.stands;
             journal = λ all told room.
-                let was : HasRoom old.durable.core = (
+                let was : CoreHasRoom old.durable.core = (
                   let up = does.goes_on.number in let top = room.0 in omega (arith, up, top),
                   let up = does.goes_on.next_tx in let top = room.1 in omega (arith, up, top),
                 ) in
@@ -96,7 +96,7 @@ module _ {S D : Type 0} (stores : DiskKind S) (kind : DiskKind D) (old new : Dur
           left = λ k n had line is keeps. untold keeps;
         }
 
-    event_told : Tells (journaled_engine stores kind) t (Ok e) a
+    event_told : EngineTells (journaled_engine stores kind) t (Ok e) a
     event_told = λ tells m stands.
         let is = does.told tells m (stands.core tells.tables.all) in
         record {
@@ -110,7 +110,7 @@ module _ {S D : Type 0} (stores : DiskKind S) (kind : DiskKind D) (old new : Dur
           stays = λ k s next stage h. tt;
         }
 
-    event_punches : Punches (journaled_engine stores kind) t (Ok e) a
+    event_punches : LinePunches (journaled_engine stores kind) t (Ok e) a
     event_punches =
         let did = of_core.event_punches (synced_kind stores) (step before behind old.durable.core new.durable.core) e a does.punched in
         record { ranges = did.ranges; are = did.are; counts = did.counts; follows = did.follows }
@@ -129,7 +129,7 @@ module _ {S D : Type 0} (stores : DiskKind S) (kind : DiskKind D) (old new : Dur
 
     event_keeps : (f : Event) (b : Answer) (answered : CoreView)
         → IsLine (synced_kind stores) (span_of (core_scene kind old) (core_scene kind new)) old.durable.core answered f b → Cause f b
-        → Keeps (journaled_engine stores kind) t (Ok f) b
+        → HandsOnlySaves (journaled_engine stores kind) t (Ok f) b
     event_keeps event.Save b answered line cause = save_kept _ line.answered.tables b line.turn.0 cause
     event_keeps f b answered line cause = blind_stays kind old.disk new.disk goes
 
@@ -150,7 +150,7 @@ pub event_survives : {S D E : Type 0} (stores : DiskKind S) (kind : DiskKind D) 
     → (new.durable.core.tables.kv.number ≤ old.durable.core.tables.kv.number + 1) × (new.durable.core.tables.next_tx ≤ old.durable.core.tables.next_tx + 1)
     → SurvivesLine stores kind old new (Ok e)
 event_survives stores kind old new e why survives numbers = λ m stands grow left stop.
-    let room : HasRoom new.durable.core = (
+    let room : CoreHasRoom new.durable.core = (
       let low = grow.0 in let more = numbers.0 in omega (arith, low, more),
       let low = grow.1 in let more = numbers.1 in omega (arith, low, more),
     ) in
@@ -166,7 +166,7 @@ answered_survives stores kind store_laws disk_laws old new line a goes is = λ m
     let was : StandsJournaled stores kind old.shelf (journaled old.durable old.disk) m
     = record { core = λ all. stands.machine; journal = λ all told room. stands } in
     let law = is.lawful stands.shelf m was in
-    let room : HasRoom new.durable.core = (
+    let room : CoreHasRoom new.durable.core = (
       let low = grow.0 in let more = is.goes_on.number in omega (arith, low, more),
       let low = grow.1 in let more = is.goes_on.next_tx in omega (arith, low, more),
     ) in (

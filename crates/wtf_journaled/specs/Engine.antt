@@ -5,7 +5,7 @@ use Rattle.wtf_dev.specs.Streams.{SinkView}
 use Rattle.wtf_dev.specs.Sums.{TellsAll}
 use Rattle.wtf_journal.specs.Follows.{SyncedState, synced_kind}
 use Rattle.wtf_model.specs.Machines.{Machine}
-use Rattle.wtf_core.specs.Promises.{HasRoom}
+use Rattle.wtf_core.specs.Promises.{CoreHasRoom}
 use Rattle.wtf_serve.specs.Engines.{Engine}
 use Rattle.wtf_serve.specs.Passes.{Hand, Input, hand}
 use Rattle.wtf_serve.specs.Stocks.{stock}
@@ -30,7 +30,7 @@ pub record IsSoundJournaled {S D : Type 0} (stores : DiskKind S) (kind : DiskKin
 pub record StandsJournaled {S D : Type 0} (stores : DiskKind S) (kind : DiskKind D) (shelf : List (SyncedState S)) (s : JournaledState D) (m : Machine)
     : Type 0 where
   pub core : (durable_engine stores).stands shelf s.durable m
-  pub journal : TellsAll (synced_kind stores) shelf → (kind.view s.disk).tells ≡ true → HasRoom s.durable.core
+  pub journal : TellsAll (synced_kind stores) shelf → (kind.view s.disk).tells ≡ true → CoreHasRoom s.durable.core
       → StandsDurably stores kind (durable_scene shelf s.disk s.durable) m
 
 -- it answers the lines of a run as the durable store does
@@ -58,8 +58,8 @@ journaled_engine stores kind = record {
 abbrev pub JournaledHand : (S D : Type 0) → Type 0
 JournaledHand S D = Hand (SyncedState S) (JournaledState D)
 
-abbrev pub in_hand : {S D : Type 0} → DiskKind D → Input → SinkView → List (SyncedState S) → JournaledState D → JournaledHand S D
-in_hand kind i sink shelf s = hand i sink (stock shelf (blind (kind.view s.disk))) s
+abbrev pub journaled_hand : {S D : Type 0} → DiskKind D → Input → SinkView → List (SyncedState S) → JournaledState D → JournaledHand S D
+journaled_hand kind i sink shelf s = hand i sink (stock shelf (blind (kind.view s.disk))) s
 
 abbrev pub scene_of : {S D : Type 0} → JournaledHand S D → DurableScene S D
 scene_of h = durable_scene h.stock.shelf h.state.disk h.state.durable

@@ -11,7 +11,7 @@ use Rattle.wtf_serve.specs.Logs.{output}
 use Rattle.wtf_serve.specs.Openings.{Opening}
 use Rattle.wtf_serve.specs.Stocks.{Stock}
 use Rattle.wtf_serve.specs.Traces.{HasWritten}
-use Rattle.wtf_serve.specs.Unopened.{IsRun, IsWhy, Refuses, refusal_line}
+use Rattle.wtf_serve.specs.Unopened.{IsRunWith, IsWhy, Refuses, refusal_line}
 use Rattle.wtf_serve.proofs.Telling.{some_same}
 
 abbrev pub sink_at : ℕ → Option (List ℕ) → SinkView
@@ -228,8 +228,8 @@ bare_served kind handed opening status source source' stock stock' g f p taken' 
 
 pub bare_run : {S : Type 0} (kind : StoreKind S) (handed : List (List ℕ) → Type 0) (settings : Settings) (status : ℕ) (source source' : SourceView)
     (stock stock' : Stock S) (g f : ℕ) (p : List ℕ) (taken' : Option (List ℕ))
-    → IsRun kind handed settings status (at source g (Some p) stock) (at source' f taken' stock')
-    → (text : List ℕ) × (taken' ≡ Some (p ++ text)) × IsRun kind handed settings status (at source g (Some []) stock) (at source' f (Some text) stock')
+    → IsRunWith kind handed settings status (at source g (Some p) stock) (at source' f taken' stock')
+    → (text : List ℕ) × (taken' ≡ Some (p ++ text)) × IsRunWith kind handed settings status (at source g (Some []) stock) (at source' f (Some text) stock')
 bare_run kind handed settings status source source' stock stock' g f p taken' (inl u) =
     let w = bare_why kind status source source' stock stock' g f p taken' u.why in
     (w.0, w.1, inl (record { why = w.2; source_is = u.source_is; shelf_is = u.shelf_is; kept = u.kept }))

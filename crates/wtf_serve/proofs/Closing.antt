@@ -15,7 +15,7 @@ use Rattle.wtf_model.specs.declared.event.Event.TheVariants as event
 use Rattle.wtf_model.specs.Servers.{is_device_fault}
 use Rattle.wtf_serve.specs.Beginnings.{Closes}
 use Rattle.wtf_serve.specs.Endings.{Devices, AreStill, IsServedStatus, closing_faults}
-use Rattle.wtf_serve.specs.Engines.{Engine, Step, Punches, IsAnswer}
+use Rattle.wtf_serve.specs.Engines.{Engine, Step, LinePunches, IsAnswer}
 use Rattle.wtf_serve.specs.Runs.{IsStill}
 use Rattle.wtf_serve.specs.Scripts.{IsEndStatus, end_status}
 use Rattle.wtf_serve.specs.Stocks.{Stock, RoseBy, IsSaveFault, KeeperGoesOn}
@@ -83,7 +83,7 @@ still_status status a a' b b' (inr (inr (inr (inr (inr e))))) not_2 three four f
 -- ---- what comes of the closing save, by its answer
 
 -- it punches nothing
-pub save_follows : {S State : Type 0} (engine : Engine S State) (t : Step S State) (a : Answer) → Punches engine t (Ok event.Save) a
+pub save_follows : {S State : Type 0} (engine : Engine S State) (t : Step S State) (a : Answer) → LinePunches engine t (Ok event.Save) a
     → EachFollows engine.kind t.before.shelf t.after.shelf []
 save_follows engine t a h = subst (λ (ranges : List (ℕ × Range)). EachFollows engine.kind t.before.shelf t.after.shelf ranges) h.are.0 h.follows
 

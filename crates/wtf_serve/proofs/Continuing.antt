@@ -13,11 +13,11 @@ use Rattle.wtf_image.specs.Rules.{size_in}
 use Rattle.wtf_core.specs.Pictured.{IsImageOfTree, IsImageWith}
 use Rattle.wtf_core.specs.Telling.{stores_of}
 use Rattle.wtf_serve.specs.Endings.{Devices}
-use Rattle.wtf_serve.specs.Continued.{IsWhole, BeginsBehind, GoesOnFrom}
+use Rattle.wtf_serve.specs.Continued.{IsWholeRun, BeginsBehind, GoesOnFrom}
 use Rattle.wtf_serve.specs.Logs.{last}
 use Rattle.wtf_serve.specs.Openings.{Opening, Opens, IsTakenOver, StartsFrom}
 use Rattle.wtf_serve.specs.Program.{IsFew}
-use Rattle.wtf_serve.specs.Unopened.{IsOpened, IsRun}
+use Rattle.wtf_serve.specs.Unopened.{IsOpened, IsRunWith}
 use Rattle.wtf_serve.proofs.Headline.{began}
 use Rattle.wtf_serve.proofs.Keeping.{text_some}
 use Rattle.wtf_serve.proofs.Refusing.{refused_taken, run_image, run_refused}
@@ -64,7 +64,7 @@ image_enough size settings asked n next (b ∷ bytes) stores is enough few =
 
 module _ {S : Type 0} (kind : StoreKind S) (handed handed' : List (List ℕ) → Type 0) (asked asked' : Settings) (status status' : ℕ)
     (old new old' new' : Devices S)
-    (whole : IsWhole kind handed asked status old new) (behind : BeginsBehind new old' whole.kept) where
+    (whole : IsWholeRun kind handed asked status old new) (behind : BeginsBehind new old' whole.kept) where
   abbrev machine : Machine
   machine = last whole.opened.opening whole.tree whole.opened.served.log
 
@@ -91,7 +91,7 @@ module _ {S : Type 0} (kind : StoreKind S) (handed handed' : List (List ℕ) →
       at_least : (n m : ℕ) → ((m < n) → ⊥) → n ≤ m
       at_least n m not_less = elim (cases_lt m n) [ inl less ↦ absurd (not_less less) | inr le ↦ le ]
 
-  pub begins_again : IsRun kind handed' asked' status' old' new' → (status' ≢ 6) × (status' ≢ 2)
+  pub begins_again : IsRunWith kind handed' asked' status' old' new' → (status' ≢ 6) × (status' ≢ 2)
   begins_again run =
       let (next, few, is) = there in (
         λ e. (
@@ -123,8 +123,8 @@ module _ {S : Type 0} (kind : StoreKind S) (handed handed' : List (List ℕ) →
   pub goes_on_again : (o : IsOpened kind handed' asked' status' old' new')
       → GoesOnFrom (byte_at kind old'.stock.shelf) whole.opened.opening whole.tree whole.opened.served.log o.opening
   goes_on_again o =
-      let left = whole.opened.served.left started whole.tells whole.telling whole.number whole.next_tx whole.tree whole.from whole.kept whole.held in
-      goes_on_over (byte_at kind old'.stock.shelf)
+      let left = whole.opened.served.left started whole.tells whole.telling whole.number whole.next_tx whole.tree whole.from whole.kept whole.held
+      in goes_on_over (byte_at kind old'.stock.shelf)
       (subst (λ (s : List S). IsImageOfTree (byte_at kind s) whole.kept machine.now) (sym behind.shelf) (left.saved whole.end)) o
 
   -- and over the stores of the settings' servers by themselves

@@ -33,7 +33,7 @@ use Rattle.wtf_serve.specs.declared.service.Stop.{Stop}
 use Rattle.wtf_serve.specs.declared.service.Stop.TheVariants as stop
 use Rattle.wtf_serve.specs.Beginnings.{Closes, Ends}
 use Rattle.wtf_serve.specs.Endings.{Devices, IsServedStatus, IsEarlyStatus, stop_status, IsNextLine, IsOfCollect, IsLeft, IsNext, Served}
-use Rattle.wtf_serve.specs.Engines.{Engine, Step, step, IsLawful, IsAnswer}
+use Rattle.wtf_serve.specs.Engines.{Engine, Step, step, IsLineLawful, IsAnswer}
 use Rattle.wtf_serve.specs.Logs.{Log, asked, last, last_downs, output}
 use Rattle.wtf_serve.specs.Openings.{Opening, StartsFrom}
 use Rattle.wtf_serve.specs.Passes.{Hand, step_of, IsLeftOut, PassIs}
@@ -257,7 +257,7 @@ module _ {S State : Type 0} (engine : Engine S State) (laws : KindLaws engine.ki
     t = step now.stock final now.state state'
 
     lawful : (a : _) → IsAnswer engine t (Ok event.Save) a → TellsAll engine.kind start.stock.shelf → (tree : Tree)
-        → StartsFrom (byte_at engine.kind start.stock.shelf) opening.bytes tree → IsLawful engine t (last opening tree g.log) (Ok event.Save) a
+        → StartsFrom (byte_at engine.kind start.stock.shelf) opening.bytes tree → IsLineLawful engine t (last opening tree g.log) (Ok event.Save) a
     lawful a is tells tree from =
         is.lawful ((g.so_far.told tells).tells tree from) (last opening tree g.log) (g.so_far.stands tells tree from)
 

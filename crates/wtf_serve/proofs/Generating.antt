@@ -5,15 +5,15 @@ use Rattle.wtf_base.specs.declared.settings.Settings.{Settings}
 use Rattle.wtf_words.specs.declared.Recipe.{Recipe}
 use Rattle.wtf_dev.specs.Store.{StoreKind}
 use Rattle.wtf_dev.specs.Streams.{SourceView, SinkView}
-use Rattle.wtf_summary.specs.Summaries.{shown}
+use Rattle.wtf_summary.specs.Summaries.{shown_text}
 use Rattle.wtf_summary.specs.Traces.{mark, numbers_of}
-use Rattle.wtf_summary.specs.States.{IsSound, told}
+use Rattle.wtf_summary.specs.States.{SinkStands, told}
 use Rattle.wtf_summary.specs.declared.state.State.{State}
 use Rattle.wtf_summary.proofs.Ends.{goes_on, shows_all}
 use Rattle.wtf_serve.specs.Endings.{Devices}
 use Rattle.wtf_serve.specs.Generated.{IsGeneratedRun, Shows, script_of}
 use Rattle.wtf_serve.specs.Stocks.{Stock}
-use Rattle.wtf_serve.specs.Unopened.{IsRun, IsWhy}
+use Rattle.wtf_serve.specs.Unopened.{IsRunWith, IsWhy}
 use Rattle.wtf_serve.proofs.Bared.{at, bare_run}
 use Rattle.wtf_serve.proofs.Telling.{some_same}
 
@@ -32,7 +32,7 @@ why_still kind status old new (inr (inl is)) not_4 = ap (λ (s : SinkView). s.fa
 why_still kind status old new (inr (inr refused)) not_4 = refused.told.still not_4
 
 run_still : {S : Type 0} (kind : StoreKind S) (handed : List (List ℕ) → Type 0) (settings : Settings) (status : ℕ) (old new : Devices S)
-    → IsRun kind handed settings status old new → status ≢ 4 → new.sink.faults ≡ old.sink.faults
+    → IsRunWith kind handed settings status old new → status ≢ 4 → new.sink.faults ≡ old.sink.faults
 run_still kind handed settings status old new (inl unopened) not_4 = why_still kind status old new unopened.why not_4
 run_still kind handed settings status old new (inr opened) not_4 = opened.served.sink_still not_4
 
@@ -40,8 +40,8 @@ run_still kind handed settings status old new (inr opened) not_4 = opened.served
 pub generated_run : {S : Type 0} (kind : StoreKind S) (handed : List (List ℕ) → Type 0) (settings : Settings) (recipe : Recipe) (status : ℕ)
     (source script script' : SourceView) (real real' : SinkView) (stock stock' : Stock S) (name name' : ℕ) (state state' : State)
     → script ≡ record { faults = 0; given = 0; rest = Some (script_of recipe) } → script'.faults ≡ 0 → state.faults ≡ 0 → state.lines ≡ recipe.lines
-    → state.trace.first.numbers ≡ numbers_of real → state.trace.text.numbers ≡ [] → IsSound real' state'
-    → IsRun kind handed settings status (at script state.faults (Some (told name state)) stock) (at script' state'.faults (Some (told name' state')) stock')
+    → state.trace.first.numbers ≡ numbers_of real → state.trace.text.numbers ≡ [] → SinkStands real' state'
+    → IsRunWith kind handed settings status (at script state.faults (Some (told name state)) stock) (at script' state'.faults (Some (told name' state')) stock')
     → (name' ≡ name) × IsGeneratedRun kind handed settings recipe status (record { source = source; sink = real; stock = stock })
     (record { source = source; sink = real'; stock = stock' })
 generated_run kind handed settings recipe status source script script' real real' stock stock' name name' state state' script_is sound_script faults lines first
@@ -58,8 +58,8 @@ generated_run kind handed settings recipe status source script script' real real
         feed_is = sound.ended;
         front = state'.trace.seen.numbers;
         back = state'.trace.rest.numbers;
-        all = sound.shows ∙ ap (λ (k : ℕ). shown k (state'.trace.text.numbers ++ state'.trace.more.numbers)) on.lines
-            ∙ ap (λ (t : List ℕ). shown recipe.lines (t ++ state'.trace.more.numbers)) on.text;
+        all = sound.shows ∙ ap (λ (k : ℕ). shown_text k (state'.trace.text.numbers ++ state'.trace.more.numbers)) on.lines
+            ∙ ap (λ (t : List ℕ). shown_text recipe.lines (t ++ state'.trace.more.numbers)) on.text;
         new_is = sound.added real before on.first h;
       };
       cause = λ n. sound.rose real on.first (omega (arith, n));
@@ -75,8 +75,10 @@ generated_run kind handed settings recipe status source script script' real real
         whole = λ not_4. run_still kind handed settings status (at script state.faults (Some (told name state)) stock)
             (at script' state'.faults (Some (told name' state')) stock') run not_4 ∙ faults;
         text = written;
-        run = subst (λ (v : SourceView). IsRun kind handed settings status (at v 0 (Some []) stock) (at script' state'.faults (Some written) stock')) script_is
-            (subst (λ (n : ℕ). IsRun kind handed settings status (at script n (Some []) stock) (at script' state'.faults (Some written) stock')) faults bare.2);
+        run = subst (λ (v : SourceView). IsRunWith kind handed settings status (at v 0 (Some []) stock)
+            (at script' state'.faults (Some written) stock')) script_is
+            (subst (λ (n : ℕ). IsRunWith kind handed settings status (at script n (Some []) stock)
+            (at script' state'.faults (Some written) stock')) faults bare.2);
         shows = shows;
       },
     )

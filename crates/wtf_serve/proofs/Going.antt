@@ -21,9 +21,9 @@ use Rattle.wtf_gc.specs.Frees.{lie_in}
 use Rattle.wtf_core.specs.Pictured.{IsTakenFor}
 use Rattle.wtf_script.specs.declared.limits.TheConstants.{SCRIPT_BYTES}
 use Rattle.wtf_script.specs.Reading.{work}
-use Rattle.wtf_serve.specs.Beginnings.{IsReady}
+use Rattle.wtf_serve.specs.Beginnings.{CanBegin}
 use Rattle.wtf_serve.specs.Endings.{Devices}
-use Rattle.wtf_serve.specs.Engines.{Engine, HasRoom}
+use Rattle.wtf_serve.specs.Engines.{Engine, StateHasRoom}
 use Rattle.wtf_serve.specs.Logs.{Log, asked, last, first_line, output}
 use Rattle.wtf_serve.specs.Openings.{Opening, IsTakenOver, StartsFrom, first}
 use Rattle.wtf_serve.specs.Passes.{Hand, hand, input, step_of, HasDrawn, PassIs}
@@ -89,7 +89,7 @@ taken_same size settings n next n' next' bytes same_n same_next is = subst (λ (
 -- the run after its first line, behind which the keeper holds what it held before it was loaded
 pub going_none : {S State : Type 0} (engine : Engine S State) → KindLaws engine.kind
     → (opening : Opening) (start : Devices S) (sink' : SinkView) (keeper' : KeeperView) (state : State)
-    → IsReady engine opening start.stock.shelf state → (opening.number ≤ 2 ^ 62) × (opening.next_tx ≤ 2 ^ 62)
+    → CanBegin engine opening start.stock.shelf state → (opening.number ≤ 2 ^ 62) × (opening.next_tx ≤ 2 ^ 62)
     → IsTakenFor (size_in engine.kind start.stock.shelf) opening.settings opening.number opening.next_tx opening.bytes
     → KeeperGoesOn start.stock.keeper keeper' → ((b : List ℕ) → start.stock.keeper.held ≡ Some b → keeper'.held ≡ Some b)
     → ((old : List ℕ) → start.sink.taken ≡ Some old → sink'.taken ≡ Some (old ++ first_line opening)) → sink'.faults ≡ start.sink.faults
@@ -160,7 +160,7 @@ module _ {S State : Type 0} (engine : Engine S State) (laws : KindLaws engine.ki
       (arith, g.counted script told.rest e told.left_is, drawn.counted told.rest left told.left_is f)
 
   -- as long as the image's numbers leave room for the script's, an image has room for the numbers
-  pub room_now : opening.number ≤ 2 ^ 61 → opening.next_tx ≤ 2 ^ 61 → HasRoom engine now.state
+  pub room_now : opening.number ≤ 2 ^ 61 → opening.next_tx ≤ 2 ^ 61 → StateHasRoom engine now.state
   room_now low few = record { number = omega (arith, g.number, low); next_tx = omega (arith, g.next_tx, few) }
 
   -- a line was answered

@@ -7,14 +7,14 @@ use Rattle.wtf_replica.specs.Bytes.{byte_at}
 use Rattle.wtf_model.specs.Tree.{Tree, root_alone}
 use Rattle.wtf_image.specs.Rules.{size_in}
 use Rattle.wtf_words.specs.declared.Recipe.{Recipe}
-use Rattle.wtf_summary.specs.Summaries.{shown}
+use Rattle.wtf_summary.specs.Summaries.{shown_text}
 use Rattle.wtf_serve.specs.Endings.{Devices, Served, IsUnstarted, IsTold}
 use Rattle.wtf_serve.specs.Generated.{IsGeneratedRun, IsToldOf, script_of, with_script, with_text}
 use Rattle.wtf_serve.specs.Logs.{output}
 use Rattle.wtf_serve.specs.Openings.{Opening, new_opening, Opens, StartsFrom}
 use Rattle.wtf_serve.specs.Scripts.{IsEndStatus}
 use Rattle.wtf_serve.specs.Stocks.{IsTelling}
-use Rattle.wtf_serve.specs.Unopened.{IsRun}
+use Rattle.wtf_serve.specs.Unopened.{IsRunWith}
 use Rattle.wtf_serve.proofs.Refusing.{unopened_status}
 use Rattle.wtf_serve.proofs.Telling.{some_same}
 
@@ -47,15 +47,15 @@ told_run kind handed opening status old new script text kept t served tells tell
 -- a run whose keeper held nothing began with the root alone, under the settings that were asked for
 pub told_new : {S : Type 0} (kind : StoreKind S) (handed : List (List ℕ) → Type 0) (settings : Settings) (status : ℕ) (old new : Devices S)
     (script text kept : List ℕ)
-    → IsRun kind handed settings status old new → TellsAll kind old.stock.shelf → IsTelling old.stock.keeper []
+    → IsRunWith kind handed settings status old new → TellsAll kind old.stock.shelf → IsTelling old.stock.keeper []
     → old.source.rest ≡ Some script → old.sink.taken ≡ Some [] → new.sink.taken ≡ Some text → new.stock.keeper.held ≡ Some kept → IsEndStatus status
     → IsTold (byte_at kind new.stock.shelf) (size_in kind new.stock.shelf) (new_opening settings) root_alone script text kept
 told_new kind handed settings status old new script text kept (inl unopened) tells telling rest taken now held end =
     let (few, most) = unopened_status kind status old new unopened.why in absurd (omega (arith, end, few))
 told_new kind handed settings status old new script text kept (inr opened) tells telling rest taken now held end =
     let opens : Opens settings [] opened.opening = subst (λ (b : List ℕ). Opens settings b opened.opening) (opened.given [] telling.held) opened.opens in
-    let served : Served kind handed (new_opening settings) status old new = subst (λ (o : Opening). Served kind handed o status old new) opens opened.served in
-    told_run kind handed (new_opening settings) status old new script text kept root_alone served tells telling (omega arith)
+    let served : Served kind handed (new_opening settings) status old new = subst (λ (o : Opening). Served kind handed o status old new) opens opened.served
+    in told_run kind handed (new_opening settings) status old new script text kept root_alone served tells telling (omega arith)
     (omega arith) refl rest taken now held end
 
 -- the same of a generated script
@@ -69,6 +69,6 @@ told_generated kind handed settings recipe status old new written kept run tells
   told_is = told_new kind handed settings status (with_script recipe old) (with_text run.left run.faults run.text new)
       (script_of recipe) run.text kept run.run tells telling
       refl refl refl held end;
-  wrote = some_same written (shown recipe.lines run.text)
+  wrote = some_same written (shown_text recipe.lines run.text)
       (sym now ∙ run.shows.whole (run.whole (λ e. omega (arith, e, end))) [] taken);
 }

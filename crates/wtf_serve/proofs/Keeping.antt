@@ -17,7 +17,7 @@ use Rattle.wtf_core.specs.Keeping.{KeeperSpan, keeper_span, KeeperTurn, HasSaved
 use Rattle.wtf_core.specs.Saves.{SaveTurn, AreUp}
 use Rattle.wtf_core.specs.Turns.{IsLine}
 use Rattle.wtf_serve.specs.Cores.{engine}
-use Rattle.wtf_serve.specs.Engines.{Step, step, Saves, Keeps}
+use Rattle.wtf_serve.specs.Engines.{Step, step, Saves, HandsOnlySaves}
 use Rattle.wtf_serve.specs.Stocks.{stock, KeeperGoesOn, KeeperStays, HandsOver, HoldsSome}
 
 -- an image has bytes
@@ -78,6 +78,6 @@ module _ {K S : Type 0} (view : K → KeeperView) (follows : K → K → List (L
   save_kept Up tables a turn is = absurd is
 
   pub event_kept : (e : Event) (a : Answer) → Turns e a → IsLine kind (span (is_down core.replicas) before after) core core' e a
-      → Keeps (engine kind) t (Ok e) a
+      → HandsOnlySaves (engine kind) t (Ok e) a
   event_kept event.Save a turn line = save_kept (AreUp core.replicas core.settings.servers) line.answered.tables a turn line.turn.0
   event_kept e a turn line = keeper_same (view old) (view new) (ap view turn)

@@ -14,13 +14,13 @@ use Rattle.wtf_model.specs.declared.event.Event.{Event}
 use Rattle.wtf_model.specs.declared.event.Event.TheVariants as event
 use Rattle.wtf_core.specs.Keeping.{HoldsKept}
 use Rattle.wtf_core.specs.Promises as promised
-use Rattle.wtf_gc.specs.Extents.{covers}
+use Rattle.wtf_gc.specs.Extents.{extents_cover}
 use Rattle.wtf_gc.specs.Frees.{AreGarbage}
 use Rattle.wtf_gc.specs.Views.{GcView, mark_of, is_garbage}
 use Rattle.wtf_core.specs.Punched.{AreOfGarbage, ArePunchedBy, CountsAs, IsUncollected}
 use Rattle.wtf_core.specs.Views.{CoreView}
 use Rattle.wtf_serve.specs.Answering.{IsBad}
-use Rattle.wtf_serve.specs.Engines.{Step, step, is_save_event, GoesOn, Leaves, Obeys, Tells, Punches, IsAnswer}
+use Rattle.wtf_serve.specs.Engines.{Step, step, is_save_event, StateGoesOn, LineLeaves, Obeys, EngineTells, LinePunches, IsAnswer}
 use Rattle.wtf_serve.specs.Punched.{AreFresh, ArePunchedIn, CountsIn, collected_by}
 use Rattle.wtf_serve.specs.Stocks.{Stock}
 use Rattle.wtf_serve.specs.Cores.{IsSoundCore, engine}
@@ -46,11 +46,11 @@ module _ {S : Type 0} (kind : StoreKind S) (here : Stock S) (core : CoreView) (b
 
 -- and punches nothing
 pub bad_punches : {S : Type 0} (kind : StoreKind S) → KindLaws kind → (here : Stock S) (core : CoreView) (bad : Answer) → IsBad bad
-    → Punches (engine kind) (step here here core core) (Err bad) bad
+    → LinePunches (engine kind) (step here here core core) (Err bad) bad
 bad_punches kind laws here core (answer.Bad w) is = record {
   ranges = [];
   are = (refl, refl);
-  counts = λ p. sym (or_none (covers core.tables.beside.gc.freed p));
+  counts = λ p. sym (or_none (extents_cover core.tables.beside.gc.freed p));
   follows = each_same laws here.shelf;
 }
 bad_punches kind laws here core a is = absurd is
@@ -120,17 +120,18 @@ both_parts : (a b : Bool) → (a && b) ≡ true → (a ≡ true) × (b ≡ true)
 both_parts true b h = (refl, h)
 both_parts false b h = absurd (true≢false (sym h))
 
-fresh_at : (gc : GcView) (k : ℕ) (p : Place) → (nat_eq p.server k && is_garbage gc p) ≡ true → (p.server ≡ k) × (covers gc.freed p ≡ false)
+fresh_at : (gc : GcView) (k : ℕ) (p : Place) → (nat_eq p.server k && is_garbage gc p) ≡ true → (p.server ≡ k) × (extents_cover gc.freed p ≡ false)
 fresh_at gc k p h =
     let both = both_parts (nat_eq p.server k) (is_garbage gc p) h in (
       eqb-true p.server k both.0,
-      garbage_parts (nat_lt p.at (mark_of gc.older p.server p.file)) (covers gc.older.found p) (covers gc.newer.found p) (covers gc.freed p) both.1,
+      garbage_parts (nat_lt p.at (mark_of gc.older p.server p.file)) (extents_cover gc.older.found p) (extents_cover gc.newer.found p)
+          (extents_cover gc.freed p) both.1,
     )
 
-fresh_all : (gc : GcView) (k : ℕ) (ranges : List (ℕ × Range)) → AreGarbage gc k ranges → AreFresh (covers gc.freed) k ranges
+fresh_all : (gc : GcView) (k : ℕ) (ranges : List (ℕ × Range)) → AreGarbage gc k ranges → AreFresh (extents_cover gc.freed) k ranges
 fresh_all gc k ranges h = record { apart = h.apart; fresh = λ p here. fresh_at gc k p (sym (h.exact p) ∙ here) }
 
-fresh_some : (gc : GcView) (k : ℕ) (ranges : List (ℕ × Range)) → AreOfGarbage gc k ranges → AreFresh (covers gc.freed) k ranges
+fresh_some : (gc : GcView) (k : ℕ) (ranges : List (ℕ × Range)) → AreOfGarbage gc k ranges → AreFresh (extents_cover gc.freed) k ranges
 fresh_some gc k ranges h = record { apart = h.apart; fresh = λ p here. fresh_at gc k p (h.among p here) }
 
 module _ {S : Type 0} (kind : StoreKind S) (t : Step S CoreView) (e : Event) (a : Answer) where
@@ -140,10 +141,10 @@ module _ {S : Type 0} (kind : StoreKind S) (t : Step S CoreView) (e : Event) (a 
   abbrev behind : promised.Scene S
   behind = promised.scene t.after.shelf t.after.keeper t.new
 
-  pub event_goes_on : IsSoundCore kind t.before.shelf t.old → promised.GoesOn kind before behind e a
-      → promised.Stays t.old t.new → promised.HasPunched kind before behind e a
+  pub event_goes_on : IsSoundCore kind t.before.shelf t.old → promised.CoreGoesOn kind before behind e a
+      → promised.CoreKeeps t.old t.new → promised.HasPunched kind before behind e a
       → (t.before.keeper.tells ≡ true → HoldsKept t.before.keeper t.old.settings t.old.tables → HoldsKept t.after.keeper t.old.settings t.new.tables)
-      → GoesOn (engine kind) t (Ok e) a
+      → StateGoesOn (engine kind) t (Ok e) a
   event_goes_on was on stays punched held = record {
     sound = record {
       not_closed = on.not_closed;
@@ -164,7 +165,7 @@ module _ {S : Type 0} (kind : StoreKind S) (t : Step S CoreView) (e : Event) (a 
     kept = λ tells holds. subst (λ (s : Settings). HoldsKept t.after.keeper s t.new.tables) (sym stays.settings) (held tells holds);
   }
 
-  pub event_told : promised.GoesOnTold kind before behind e a → Tells (engine kind) t (Ok e) a
+  pub event_told : promised.GoesOnTold kind before behind e a → EngineTells (engine kind) t (Ok e) a
   event_told told = λ tells m stands.
       let is = told tells m stands in
       record {
@@ -180,17 +181,17 @@ module _ {S : Type 0} (kind : StoreKind S) (t : Step S CoreView) (e : Event) (a 
 
   -- what the core says of garbage is what a run is given of what was freed
   ranges_by : (f : Event) (b : Answer) (ranges : List (ℕ × Range)) → ArePunchedBy t.old.tables.beside.gc f b ranges
-      → ArePunchedIn (covers t.old.tables.beside.gc.freed) (Ok f) b ranges
+      → ArePunchedIn (extents_cover t.old.tables.beside.gc.freed) (Ok f) b ranges
   ranges_by (event.Collect k) (answer.Collected n) ranges h = (fresh_all t.old.tables.beside.gc k ranges h.0, h.1)
   ranges_by (event.Collect k) (answer.FaultPunch j) ranges h = fresh_some t.old.tables.beside.gc k ranges h
   ranges_by f b ranges h = (h.0, none_collected b h.1)
 
   counts_by : (b : Answer) (ranges : List (ℕ × Range)) → CountsAs t.old.tables.beside.gc t.new.tables.beside.gc b ranges
-      → CountsIn (covers t.old.tables.beside.gc.freed) (covers t.new.tables.beside.gc.freed) b ranges
+      → CountsIn (extents_cover t.old.tables.beside.gc.freed) (extents_cover t.new.tables.beside.gc.freed) b ranges
   counts_by (answer.FaultPunch k) ranges h = h
   counts_by b ranges h = h
 
-  pub event_punches : promised.HasPunched kind before behind e a → Punches (engine kind) t (Ok e) a
+  pub event_punches : promised.HasPunched kind before behind e a → LinePunches (engine kind) t (Ok e) a
   event_punches h = record {
     ranges = h.punches.ranges;
     are = ranges_by e a h.punches.ranges h.punches.are;
@@ -215,10 +216,10 @@ module _ {S : Type 0} (kind : StoreKind S) (t : Step S CoreView) (e : Event) (a 
       some_of_none : (k : ℕ) → t.old.tables.beside.watched ≡ Some k → ⊥
       some_of_none k is = let none = was.unwatched in cc
 
-      save_by : (b : Answer) → promised.Leaves kind before behind event.Save b → Leaves (engine kind) t (Ok event.Save) b
+      save_by : (b : Answer) → promised.CoreLeaves kind before behind event.Save b → LineLeaves (engine kind) t (Ok event.Save) b
       save_by (answer.Saved n) h = h
       save_by b h = tt
 
-      by : (f : Event) (b : Answer) → promised.Leaves kind before behind f b → Leaves (engine kind) t (Ok f) b
+      by : (f : Event) (b : Answer) → promised.CoreLeaves kind before behind f b → LineLeaves (engine kind) t (Ok f) b
       by event.Save b h = save_by b h
       by f b h = tt

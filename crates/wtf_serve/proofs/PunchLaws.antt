@@ -9,7 +9,7 @@ use Rattle.wtf_model.specs.declared.answer.Answer.TheVariants as answer
 use Rattle.wtf_model.specs.declared.event.Event.TheVariants as event
 use Rattle.wtf_model.specs.Lines.{Line}
 use Rattle.wtf_region.specs.Apart.{lies_in}
-use Rattle.wtf_gc.specs.Frees.{AreApart, bytes_of, lie_in}
+use Rattle.wtf_gc.specs.Frees.{AreApart, ranges_len, lie_in}
 use Rattle.wtf_serve.specs.Punched.{AreFresh, ArePunchedIn, CountsIn, is_punch_fault, punch_fault_count, collected_by, collected_bytes}
 use Rattle.wtf_serve.proofs.Rising.{one}
 
@@ -48,7 +48,7 @@ apart_joined (r ∷ rs) qs one two none = (
   apart_joined rs qs one.2 two (λ p here there. none p (right_of (lies_in p r) (lie_in rs p) here) there),
 )
 
-pub bytes_joined : (rs qs : List (ℕ × Range)) → bytes_of (rs ++ qs) ≡ bytes_of rs + bytes_of qs
+pub bytes_joined : (rs qs : List (ℕ × Range)) → ranges_len (rs ++ qs) ≡ ranges_len rs + ranges_len qs
 bytes_joined [] qs = omega arith
 bytes_joined (r ∷ rs) qs = let rest = bytes_joined rs qs in omega (arith, rest)
 
@@ -65,17 +65,17 @@ fresh_all : (freed : Place → Bool) (k : ℕ) (ranges : List (ℕ × Range)) �
 fresh_all freed k ranges h p here = (h.fresh p here).1
 
 none_at_all : (freed : Place → Bool) (a : Answer) (ranges : List (ℕ × Range)) → (ranges ≡ []) × (collected_by a ≡ 0)
-    → AreApart ranges × ((p : Place) → lie_in ranges p ≡ true → freed p ≡ false) × (one (is_punch_fault a) ≡ 0 → bytes_of ranges ≡ collected_by a)
+    → AreApart ranges × ((p : Place) → lie_in ranges p ≡ true → freed p ≡ false) × (one (is_punch_fault a) ≡ 0 → ranges_len ranges ≡ collected_by a)
 none_at_all freed a ranges (none, zero) = (
   subst AreApart (sym none) tt,
   λ p here. absurd (true≢false (sym here ∙ ap (λ (rs : List (ℕ × Range)). lie_in rs p) none)),
-  λ sure. ap bytes_of none ∙ sym zero,
+  λ sure. ap ranges_len none ∙ sym zero,
 )
 
 -- What one line punched: ranges that share no byte, none of which was freed before, of as many bytes as it answers where it does not fail.
 pub punched_now : (freed : Place → Bool) (line : Line) (a : Answer) (ranges : List (ℕ × Range)) → ArePunchedIn freed line a ranges
     → AreApart ranges × ((p : Place) → lie_in ranges p ≡ true → freed p ≡ false)
-    × (one (is_punch_fault a) ≡ 0 → bytes_of ranges ≡ collected_by a)
+    × (one (is_punch_fault a) ≡ 0 → ranges_len ranges ≡ collected_by a)
 punched_now freed (Ok (event.Collect k)) (answer.Collected n) ranges h = (h.0.apart, fresh_all freed k ranges h.0, λ sure. sym h.1)
 punched_now freed (Ok (event.Collect k)) (answer.FaultPunch j) ranges h = (h.apart, fresh_all freed k ranges h, λ sure. absurd (omega (arith, sure)))
 punched_now freed line a ranges h = none_at_all freed a ranges h

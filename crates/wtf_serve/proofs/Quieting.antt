@@ -8,7 +8,7 @@ use Rattle.wtf_model.specs.Lines.{Line, machine_after}
 use Rattle.wtf_model.specs.Machines.{Machine}
 use Rattle.wtf_model.specs.Tree.{Tree}
 use Rattle.wtf_core.specs.Quiet.{IsIdle, Stage, Saved, ScannedTwice}
-use Rattle.wtf_serve.specs.Engines.{Engine, Step, IsLawful, IsToldAnswer}
+use Rattle.wtf_serve.specs.Engines.{Engine, Step, IsLineLawful, IsToldAnswer}
 use Rattle.wtf_serve.specs.Logs.{Log, asked, last}
 use Rattle.wtf_serve.specs.Openings.{Opening, first}
 use Rattle.wtf_serve.specs.Quiet.{HasQuietEnding, line_stage, lines_stage}
@@ -123,7 +123,7 @@ three_last xs x front mid more last e =
 
 module _ {S State : Type 0} (engine : Engine S State) (opening : Opening) (t : Tree) (log more : Log) (step : Step S State) (line : Line) (a : Answer)
     (lines : asked more ≡ asked log ++ line ∷ []) (answers_more : more.answers ≡ log.answers ++ a ∷ [])
-    (lawful : IsLawful engine step (last opening t log) line a) (told : IsToldAnswer engine step line a)
+    (lawful : IsLineLawful engine step (last opening t log) line a) (told : IsToldAnswer engine step line a)
     (so_far : QuietSoFar engine opening t log step.before.shelf step.old) where
   -- the line brings it on
   abbrev Brings : Stage → Stage → Type 0

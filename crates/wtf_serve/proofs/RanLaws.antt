@@ -28,12 +28,12 @@ use Rattle.wtf_core.specs.Telling.{stores_of}
 use Rattle.wtf_core.proofs.Telling.{first_on}
 use Rattle.wtf_serve.specs.Scripts.{line_of}
 use Rattle.wtf_core.specs.Named.{no_slice}
-use Rattle.wtf_core.specs.Outcomes.{Load, Data, RegionList, Frees, load_of_job, load_of, data_of, has_spilled, IsUnspilled, IsUnread, AddsBytes, HasCause}
-use Rattle.wtf_gc.specs.Frees.{AreApart, bytes_of}
+use Rattle.wtf_core.specs.Outcomes.{Load, Data, RegionList, Frees, load_of_job, load_of, data_of_event, has_spilled, IsUnspilled, IsUnread, AddsBytes, HasCause}
+use Rattle.wtf_gc.specs.Frees.{AreApart, ranges_len}
 use Rattle.wtf_serve.specs.Answering.{IsOwnAnswer, line_data, line_load}
 use Rattle.wtf_serve.specs.Punched.{punch_fault_count, collected_bytes}
 use Rattle.wtf_serve.proofs.PunchLaws.{apart_joined, bytes_joined, only_on, all_on, punched_now, collected_push, punch_fault_push}
-use Rattle.wtf_serve.specs.Engines.{Engine, IsAsGiven, IsAsPunched, IsAsTold, Step, span_of, IsSaveFailure, IsLawful, IsToldAnswer, IsAnswer}
+use Rattle.wtf_serve.specs.Engines.{Engine, IsAsGiven, IsAsPunched, IsAsTold, Step, span_of, IsSaveFailure, IsLineLawful, IsToldAnswer, IsAnswer}
 use Rattle.wtf_serve.specs.Logs.{Log, asked, last, last_downs, IsUndamaged, is_write_fault, write_fault_count, if_okay, written_bytes}
 use Rattle.wtf_serve.specs.Logs.{spill_count, IsUnspilledLog}
 use Rattle.wtf_serve.specs.Openings.{Opening, StartsFrom, first}
@@ -125,7 +125,7 @@ data_in-job : (k : JobKind) → data_in (load_of_job k) ≡ []
 data_in-job Compact = refl
 data_in-job Spill = refl
 
-data_in-event : (e : Event) → data_in (load_of e) ≡ data_of e
+data_in-event : (e : Event) → data_in (load_of e) ≡ data_of_event e
 data_in-event (event.Plan j kind p r) = data_in-job kind
 data_in-event e = refl
 
@@ -243,7 +243,7 @@ module _ {S State : Type 0} (engine : Engine S State) (laws : KindLaws engine.ki
   kept = faults_grow laws next
 
   pub lawful_more : TellsAll engine.kind before.shelf → (tree : Tree) → StartsFrom (byte_at engine.kind before.shelf) opening.bytes tree
-      → IsLawful engine t (last opening tree log) (line_of line) a
+      → IsLineLawful engine t (last opening tree log) (line_of line) a
   lawful_more tells tree from = is.lawful ((g.told tells).tells tree from) (last opening tree log) (g.stands tells tree from)
 
   along : (P : Machine → Line → Answer → Type 0) (m : Machine) → Along P m (asked log) log.answers
@@ -352,13 +352,13 @@ module _ {S State : Type 0} (engine : Engine S State) (laws : KindLaws engine.ki
   none_before none = let both = punch_fault_push log.answers a in omega (arith, none, both)
 
   freed_more : punch_fault_count (log.answers ++ a ∷ []) ≡ 0
-      → AreApart (g.ran.punched ++ is.punched.ranges) × (bytes_of (g.ran.punched ++ is.punched.ranges) ≡ collected_bytes (log.answers ++ a ∷ []))
+      → AreApart (g.ran.punched ++ is.punched.ranges) × (ranges_len (g.ran.punched ++ is.punched.ranges) ≡ collected_bytes (log.answers ++ a ∷ []))
   freed_more none =
       let was = g.ran.freed (none_before none) in
       let here = punched_now (engine.freed t.old) (line_of line) a is.punched.ranges is.punched.are in (
         apart_joined g.ran.punched is.punched.ranges was.0 here.0
             (λ p in_old in_new. let there = g.punched.all (none_before none) p in_old in let fresh = here.1 p in_new in true≢false (sym there ∙ fresh)),
-        bytes_joined g.ran.punched is.punched.ranges ∙ ap (λ (n : ℕ). n + bytes_of is.punched.ranges) was.1
+        bytes_joined g.ran.punched is.punched.ranges ∙ ap (λ (n : ℕ). n + ranges_len is.punched.ranges) was.1
             ∙ ap (λ (n : ℕ). collected_bytes log.answers + n) (here.2 (let both = punch_fault_push log.answers a in omega (arith, none, both)))
             ∙ sym (collected_push log.answers a),
       )

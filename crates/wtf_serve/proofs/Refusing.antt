@@ -13,8 +13,8 @@ use Rattle.wtf_image.specs.Rules.{AreGoodSettings, IsGoodTree, size_in, are_insi
 use Rattle.wtf_serve.specs.Endings.{Devices, IsServedStatus, IsUnstarted}
 use Rattle.wtf_serve.specs.Openings.{Opening, Opens, IsTakenOver}
 use Rattle.wtf_serve.specs.Generated.{with_script, with_text}
-use Rattle.wtf_serve.specs.Program.{IsProgramRun, IsScriptRun, IsFew, IsRefused, IsStatusOf}
-use Rattle.wtf_serve.specs.Unopened.{HasServers, IsRefusedBy, IsRefusedImage, IsRun, IsRunStatus, IsWhy}
+use Rattle.wtf_serve.specs.Program.{IsProgramRun, IsScriptRun, IsFew, AreWordsRefused, IsStatusOf}
+use Rattle.wtf_serve.specs.Unopened.{HasServers, IsRefusedBy, IsRefusedImage, IsRunWith, IsRunStatus, IsWhy}
 use Rattle.wtf_serve.proofs.Starting.{same_rows}
 
 -- ---- the statuses
@@ -38,7 +38,7 @@ unopened_status kind status old new (inr (inr refused)) = elim refused.told.stat
 ]
 
 run_status : {S : Type 0} (kind : StoreKind S) (handed : List (List ℕ) → Type 0) (settings : Settings) (status : ℕ) (old new : Devices S)
-    → IsRun kind handed settings status old new → status ≤ 9
+    → IsRunWith kind handed settings status old new → status ≤ 9
 run_status kind handed settings status old new (inl unopened) = (unopened_status kind status old new unopened.why).1
 run_status kind handed settings status old new (inr opened) = served_status status opened.served.statuses
 
@@ -84,7 +84,7 @@ not_few settings [] stores some servers few = some refl
 not_few settings (b ∷ bytes) stores some servers few = omega (arith, servers few.rows few.text few.good, few.few)
 
 pub run_refused : {S : Type 0} (kind : StoreKind S) (handed : List (List ℕ) → Type 0) (settings : Settings) (status : ℕ) (old new : Devices S) (held : List ℕ)
-    → old.stock.keeper.held ≡ Some held → IsRun kind handed settings status old new
+    → old.stock.keeper.held ≡ Some held → IsRunWith kind handed settings status old new
     → (status ≡ 2) ↔ ((status ≢ 7) × (status ≢ 8) × IsFew (numbers settings) held (length old.stock.shelf))
 run_refused kind handed settings status old new held held_is (inl unopened) = (
   λ e. absurd (omega (arith, e, (unopened_status kind status old new unopened.why).0)),
@@ -117,7 +117,7 @@ script_refused kind handed settings (script.Generated recipe) status old new hel
 pub program_refused : {S : Type 0} (kind : StoreKind S) (handed : List (List ℕ) → Type 0) (asked : Option Request) (status : ℕ) (old new : Devices S)
     (held : List ℕ)
     → old.stock.keeper.held ≡ Some held → IsProgramRun kind handed asked status old new
-    → (status ≡ 2) ↔ ((status ≢ 7) × (status ≢ 8) × IsRefused asked held (length old.stock.shelf))
+    → (status ≡ 2) ↔ ((status ≢ 7) × (status ≢ 8) × AreWordsRefused asked held (length old.stock.shelf))
 program_refused kind handed None status old new held held_is run = (
   λ e. (λ d. omega (arith, d, e), λ d. omega (arith, d, e), tt),
   λ all. elim run.0 [ inl e ↦ e | inr e ↦ absurd (all.0 e) ],
@@ -165,7 +165,7 @@ opened_refused kind handed settings status old new opening false lines why opens
 ]
 
 pub run_image : {S : Type 0} (kind : StoreKind S) (handed : List (List ℕ) → Type 0) (settings : Settings) (status : ℕ) (old new : Devices S) (held : List ℕ)
-    → old.stock.keeper.held ≡ Some held → IsRun kind handed settings status old new
+    → old.stock.keeper.held ≡ Some held → IsRunWith kind handed settings status old new
     → (status ≡ 6 → IsRefusedImage (size_in kind old.stock.shelf) (length old.stock.shelf) held)
     × (IsRefusedImage (size_in kind old.stock.shelf) (length old.stock.shelf) held → status ≢ 4 → status ≢ 7 → status ≢ 8 → status ≡ 6)
 run_image kind handed settings status old new held held_is (inl unopened) = (

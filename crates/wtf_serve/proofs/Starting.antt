@@ -20,9 +20,9 @@ use Rattle.wtf_image.specs.Rows.{ImageRows}
 use Rattle.wtf_image.specs.Images.{HasText}
 use Rattle.wtf_image.specs.Rules.{AreGoodSettings, size_in}
 use Rattle.wtf_image.specs.Texts.{image_text}
-use Rattle.wtf_image.specs.Loading.{IsChecked, IsCheckRefusal, IsRefusal}
+use Rattle.wtf_image.specs.Loading.{IsChecked, IsCheckRefusal, IsLoadRefusal}
 use Rattle.wtf_image.proofs.Forms.{one_image}
-use Rattle.wtf_gc.specs.Extents.{covers}
+use Rattle.wtf_gc.specs.Extents.{extents_cover}
 use Rattle.wtf_gc.specs.Views.{GcView, new_gc}
 use Rattle.wtf_core.specs.Views.{BesideView, CoreView, unsaved}
 use Rattle.wtf_core.specs.Tables.{AreSound}
@@ -31,7 +31,7 @@ use Rattle.wtf_core.specs.Telling.{TellsCore, IsWithin, stores_of}
 use Rattle.wtf_core.specs.Keeping.{IsHeldBy}
 use Rattle.wtf_core.proofs.Started.{lie_first}
 use Rattle.wtf_core.proofs.Telling.{told_first}
-use Rattle.wtf_core.specs.Named.{CoreBytes, IsInside, IsBare, any_byte, no_slice}
+use Rattle.wtf_core.specs.Named.{CoreBytes, IsInside, IsBareCore, any_byte, no_slice}
 use Rattle.wtf_core.specs.Loading.{IsCoreOf}
 use Rattle.wtf_core.specs.Pictured.{IsImageOfTree, IsBareImage}
 use Rattle.wtf_serve.specs.declared.opening.NotOpened.TheVariants.{Image}
@@ -45,8 +45,8 @@ pub same_rows : (x y : ImageRows) (bytes : List ℕ) → HasText x bytes → Has
 same_rows x y bytes first second = (one_image x y [] first.shape second.shape (sym second.text ∙ first.text ∙ sym (append-nil (image_text x)))).0
 
 -- nothing was freed yet
-none_freed : (gc : GcView) → gc ≡ new_gc → (p : Place) → covers gc.freed p ≡ false
-none_freed gc new p = ap (λ (g : GcView). covers g.freed p) new
+none_freed : (gc : GcView) → gc ≡ new_gc → (p : Place) → extents_cover gc.freed p ≡ false
+none_freed gc new p = ap (λ (g : GcView). extents_cover g.freed p) new
 
 -- ---- the core of a keeper that holds nothing
 
@@ -99,7 +99,7 @@ enough_for size image core stores is servers = omega (arith, is.settings.servers
 
 pub loaded_opened : {S : Type 0} (kind : StoreKind S) (shelf : List S) (asked : Settings) (image : List ℕ) (core : CoreView) → image ≢ []
     → HasServers image (length shelf) → IsCoreOf (size_in kind shelf) image core → core.closed ≡ false → AreSound core.tables →
-    ((k : ℕ) → is_down core.replicas k ≡ false) → IsInside kind shelf core → (IsBareImage image → IsBare core)
+    ((k : ℕ) → is_down core.replicas k ≡ false) → IsInside kind shelf core → (IsBareImage image → IsBareCore core)
     → ((told : Told) (t : Tree) → IsImageOfTree told image t → StandsFor told core (start core.settings core.tables.kv.number t))
     → (TellsAll kind shelf → (t : Tree) → IsImageOfTree (byte_at kind shelf) image t → TellsCore kind shelf core)
     → (IsBareImage image → IsWithin kind shelf core)
@@ -171,7 +171,7 @@ check_refused kind shelf asked image error.Memory some refusal = tt
 
 pub load_refused : {S : Type 0} (kind : StoreKind S) (shelf : List S) (asked : Settings) (image : List ℕ) (why : LoadError) → image ≢ []
     → HasServers image (length shelf)
-    → IsRefusal (size_in kind shelf) image why → IsUnopenedBy kind asked image shelf (Image why)
+    → IsLoadRefusal (size_in kind shelf) image why → IsUnopenedBy kind asked image shelf (Image why)
 load_refused kind shelf asked image error.NotAnImage some enough refusal = record { some = some; refusal = refusal; not_memory = λ e. cc; enough = enough }
 load_refused kind shelf asked image error.BadSettings some enough refusal = record { some = some; refusal = refusal; not_memory = λ e. cc; enough = enough }
 load_refused kind shelf asked image error.BadTree some enough refusal = record { some = some; refusal = refusal; not_memory = λ e. cc; enough = enough }

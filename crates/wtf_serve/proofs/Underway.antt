@@ -14,7 +14,7 @@ use Rattle.wtf_core.specs.Pictured.{IsTakenFor}
 use Rattle.wtf_serve.specs.declared.service.Stop.{Stop}
 use Rattle.wtf_serve.specs.declared.service.Stop.TheVariants as stop
 use Rattle.wtf_serve.specs.Beginnings.{IsOpenedFrom, Closes, Ends}
-use Rattle.wtf_serve.specs.Endings.{Devices, IsKept, Served, stop_status}
+use Rattle.wtf_serve.specs.Endings.{Devices, IsKeeperKept, Served, stop_status}
 use Rattle.wtf_serve.specs.Engines.{Engine, Step, step}
 use Rattle.wtf_serve.specs.Logs.{first_line}
 use Rattle.wtf_serve.specs.Openings.{Opening, Opens, IsTakenOver}
@@ -22,7 +22,7 @@ use Rattle.wtf_serve.specs.Passes.{Hand, hand, input, PassIs}
 use Rattle.wtf_serve.specs.Scripts.{end_status, settings_line}
 use Rattle.wtf_serve.specs.Stocks.{Stock, stock, KeeperGoesOn}
 use Rattle.wtf_serve.specs.Turns.{WroteFront}
-use Rattle.wtf_serve.specs.Unopened.{IsRun}
+use Rattle.wtf_serve.specs.Unopened.{IsRunWith}
 use Rattle.wtf_serve.proofs.Finishing.{finish_end, finish_stop}
 use Rattle.wtf_serve.proofs.Going.{Going, going_none, going_on}
 use Rattle.wtf_serve.proofs.Leaving.{KeepsWithin}
@@ -77,7 +77,7 @@ line_of_first engine o state settings number =
 module _ {S State : Type 0} (engine : Engine S State) (laws : KindLaws engine.kind) (handed : List (List ℕ) → Type 0) (asked : Settings) (start : Devices S)
     (keeper' : KeeperView)
     (state : State) (sink' : SinkView) (text : List ℕ) (o : IsOpenedFrom engine asked start.stock.keeper start.stock.shelf state)
-    (kept : IsKept handed start.stock.keeper keeper') (keeper : KeeperGoesOn start.stock.keeper keeper')
+    (kept : IsKeeperKept handed start.stock.keeper keeper') (keeper : KeeperGoesOn start.stock.keeper keeper')
     (text_is : text ≡ settings_line (engine.settings state) (engine.number state)) where
   first_is : text ≡ first_line o.opening
   first_is = text_is ∙ line_of_first engine o.opening state o.ready.settings o.ready.number
@@ -94,7 +94,7 @@ module _ {S State : Type 0} (engine : Engine S State) (laws : KindLaws engine.ki
 
   pub unwritten_first : ((old : List ℕ) → start.sink.taken ≡ Some old → WroteFront old text sink'.taken) → Rose start.sink.faults sink'.faults
       → start.sink.faults ≤ sink'.faults
-      → IsRun engine.kind handed asked 4 start (record { source = start.source; sink = sink'; stock = stock start.stock.shelf keeper' })
+      → IsRunWith engine.kind handed asked 4 start (record { source = start.source; sink = sink'; stock = stock start.stock.shelf keeper' })
   unwritten_first cut cause faults = inr (record {
     opening = o.opening;
     opens = o.opens;
@@ -130,7 +130,7 @@ end_not_few engine t sink sink' bad status end e = elim end.ends [
 module _ {S State : Type 0} (engine : Engine S State) (laws : KindLaws engine.kind) (handed : List (List ℕ) → Type 0) (asked : Settings) (start : Devices S)
     (now next : Hand S State)
     (bad : Bool) (u : Underway engine asked start now bad) where
-  opened : (status : ℕ) (new : Devices S) → Served engine.kind handed u.opening status start new → IsRun engine.kind handed asked status start new
+  opened : (status : ℕ) (new : Devices S) → Served engine.kind handed u.opening status start new → IsRunWith engine.kind handed asked status start new
   opened status new served = inr (record { opening = u.opening; opens = u.opens; given = u.given; served = served })
 
   pub underway_on : (more : Bool) → PassIs engine now next (Ok (Some more)) → Underway engine asked start next (bad || more)
@@ -140,12 +140,12 @@ module _ {S State : Type 0} (engine : Engine S State) (laws : KindLaws engine.ki
   pub underway_end : KeepsWithin engine → (status : ℕ) (sink' : SinkView) (final : Stock S) (state' : State) → PassIs engine now next (Ok None)
       → EachFollows engine.kind next.stock.shelf final.shelf []
       → KeeperGoesOn next.stock.keeper final.keeper → Ends engine (step next.stock final next.state state') next.sink sink' bad status
-      → IsRun engine.kind handed asked status start (record { source = next.input.source; sink = sink'; stock = final })
+      → IsRunWith engine.kind handed asked status start (record { source = next.input.source; sink = sink'; stock = final })
   underway_end keeps status sink' final state' pass follows keeper ends =
       opened status (record { source = next.input.source; sink = sink'; stock = final })
       (finish_end engine laws keeps handed u.opening start now next bad u.going status sink' final state' pass follows keeper ends)
 
   pub underway_stop : KeepsWithin engine → (why : Stop) → PassIs engine now next (Err why)
-      → IsRun engine.kind handed asked (stop_status why) start (record { source = next.input.source; sink = next.sink; stock = next.stock })
+      → IsRunWith engine.kind handed asked (stop_status why) start (record { source = next.input.source; sink = next.sink; stock = next.stock })
   underway_stop keeps why pass = opened (stop_status why) (record { source = next.input.source; sink = next.sink; stock = next.stock })
       (finish_stop engine laws keeps handed u.opening start now next bad u.going why pass)

@@ -8,25 +8,25 @@ use Rattle.wtf_image.specs.declared.error.LoadError.TheVariants as error
 use Rattle.wtf_serve.specs.declared.opening.NotOpened.{NotOpened}
 use Rattle.wtf_serve.specs.declared.opening.NotOpened.TheVariants.{Few, Image}
 use Rattle.wtf_serve.specs.Beginnings.{IsUnopenedBy, EndsBy}
-use Rattle.wtf_serve.specs.Endings.{devices, IsKept}
+use Rattle.wtf_serve.specs.Endings.{devices, IsKeeperKept}
 use Rattle.wtf_serve.specs.Stocks.{KeeperGoesOn}
-use Rattle.wtf_serve.specs.Unopened.{IsRun, IsWhy}
+use Rattle.wtf_serve.specs.Unopened.{IsRunWith, IsWhy}
 use Rattle.wtf_serve.proofs.Unstarted.{refused}
 
 module _ {S : Type 0} (kind : StoreKind S) (laws : KindLaws kind) (handed : List (List ℕ) → Type 0) (asked : Settings) (shelf : List S) (k k' : KeeperView)
-    (kept : IsKept handed k k') (keeper : KeeperGoesOn k k') (source : SourceView) (out : SinkView) where
+    (kept : IsKeeperKept handed k k') (keeper : KeeperGoesOn k k') (source : SourceView) (out : SinkView) where
   -- for a reason
   pub for_reason : (status : ℕ) (out' : SinkView) → IsWhy kind status (devices source out shelf k) (devices source out' shelf k')
-      → IsRun kind handed asked status (devices source out shelf k) (devices source out' shelf k')
+      → IsRunWith kind handed asked status (devices source out shelf k) (devices source out' shelf k')
   for_reason status out' why = inl (record { why = why; source_is = refl; shelf_is = refl; kept = kept })
 
   -- by what the keeper gave
   module _ (bytes : List ℕ) (given : (held : List ℕ) → k.held ≡ Some held → bytes ≡ held) where
     pub not_opened : (why : NotOpened) (status : ℕ) (out' : SinkView) → IsUnopenedBy kind asked bytes shelf why → EndsBy why status out out'
-        → IsRun kind handed asked status (devices source out shelf k) (devices source out' shelf k')
+        → IsRunWith kind handed asked status (devices source out shelf k) (devices source out' shelf k')
     not_opened Few status out' few (is_2, same) =
-        subst (λ (n : ℕ). IsRun kind handed asked n (devices source out shelf k) (devices source out' shelf k')) (sym is_2)
-        (subst (λ (s : SinkView). IsRun kind handed asked 2 (devices source out shelf k) (devices source s shelf k')) (sym same)
+        subst (λ (n : ℕ). IsRunWith kind handed asked n (devices source out shelf k) (devices source out' shelf k')) (sym is_2)
+        (subst (λ (s : SinkView). IsRunWith kind handed asked 2 (devices source out shelf k) (devices source s shelf k')) (sym same)
         (inr (record {
           opening = few.opening;
           opens = few.opens;

@@ -7,7 +7,7 @@ use Rattle.wtf_dev.specs.Store.{StoreKind, KindLaws}
 use Rattle.wtf_dev.proofs.Each.{each_same, each_on}
 use Rattle.wtf_model.specs.Servers.{none_down, is_device_fault, is_device_fault_of_run, count_along}
 use Rattle.wtf_image.specs.Rules.{size_in}
-use Rattle.wtf_serve.specs.Endings.{Devices, IsServedStatus, IsKept, Served}
+use Rattle.wtf_serve.specs.Endings.{Devices, IsServedStatus, IsKeeperKept, Served}
 use Rattle.wtf_serve.specs.Logs.{Log, first_line, last_downs}
 use Rattle.wtf_serve.specs.Openings.{Opening, IsTakenOver}
 use Rattle.wtf_serve.specs.Stocks.{Stock, stock, KeeperGoesOn}
@@ -19,7 +19,7 @@ use Rattle.wtf_serve.proofs.Telling.{some_same, told_none, told_other}
 
 module _ {S : Type 0} (kind : StoreKind S) (laws : KindLaws kind) (handed : List (List ℕ) → Type 0) (opening : Opening) (start : Devices S)
     (keeper' : KeeperView)
-    (kept : IsKept handed start.stock.keeper keeper') (keeper : KeeperGoesOn start.stock.keeper keeper') where
+    (kept : IsKeeperKept handed start.stock.keeper keeper') (keeper : KeeperGoesOn start.stock.keeper keeper') where
   unstarted_as : (status : ℕ) (sink' : SinkView) → (status ≡ 2) ⊎ (status ≡ 4) ⊎ (status ≡ 7)
       → (status ≡ 2) ↔ (length start.stock.shelf < opening.settings.servers)
       → (status ≡ 4 → IsTakenOver (size_in kind start.stock.shelf) opening.bytes)

@@ -4,7 +4,7 @@ use Rattle.wtf_model.specs.declared.answer.Answer.{Answer}
 use Rattle.wtf_model.specs.declared.answer.Answer.TheVariants as answer
 use Rattle.wtf_model.specs.Form.{IsFormEvent}
 use Rattle.wtf_model.specs.Lines.{Line}
-use Rattle.wtf_core.specs.Outcomes.{Load, no_load, load_of, data_of}
+use Rattle.wtf_core.specs.Outcomes.{Load, no_load, load_of, data_of_event}
 
 -- a line that asks nothing gets its own answer
 abbrev pub IsOwnAnswer : Line → Answer → Type 0
@@ -13,7 +13,7 @@ IsOwnAnswer (Err bad) a = a ≡ bad
 
 -- the bytes that a line hands in to be written
 abbrev pub line_data : Line → List ℕ
-line_data (Ok e) = data_of e
+line_data (Ok e) = data_of_event e
 line_data (Err bad) = []
 
 -- what it is to store

@@ -24,7 +24,7 @@ use Rattle.wtf_serve.specs.Stocks.{KeeperStays}
 
 -- A state that a run can begin with: what it was opened with is the state's, all servers are up, and it stands for the
 -- machine before the first line. There are stores enough, an image is taken and kept, and nothing was freed.
-pub record IsReady {S State : Type 0} (engine : Engine S State) (opening : Opening) (shelf : List S) (state : State)
+pub record CanBegin {S State : Type 0} (engine : Engine S State) (opening : Opening) (shelf : List S) (state : State)
     : Type 0 where
   pub sound : engine.sound shelf state
   pub settings : engine.settings state ≡ opening.settings
@@ -45,7 +45,7 @@ pub record IsOpenedBy {S State : Type 0} (engine : Engine S State) (asked : Sett
   pub opening : Opening
   pub bytes_are : opening.bytes ≡ bytes
   pub opens : Opens asked opening.bytes opening
-  pub ready : IsReady engine opening shelf state
+  pub ready : CanBegin engine opening shelf state
 
 -- the same of what a keeper held, where it tells that
 pub record IsOpenedFrom {S State : Type 0} (engine : Engine S State) (asked : Settings) (keeper : KeeperView) (shelf : List S)
@@ -53,7 +53,7 @@ pub record IsOpenedFrom {S State : Type 0} (engine : Engine S State) (asked : Se
   pub opening : Opening
   pub opens : Opens asked opening.bytes opening
   pub given : (held : List ℕ) → keeper.held ≡ Some held → opening.bytes ≡ held
-  pub ready : IsReady engine opening shelf state
+  pub ready : CanBegin engine opening shelf state
 
 -- what the bytes ask for has more servers than there are stores
 pub record IsFewFor (asked : Settings) (bytes : List ℕ) (stores : ℕ) : Type 0 where

@@ -16,7 +16,7 @@ use Rattle.wtf_serve.specs.Unopened.{IsOpened}
 
 -- A run that was answered to its end and saved, over stores and a keeper that tell, where the numbers of the image leave room for
 -- the script's: the tree that it started from, and the bytes that it left on the keeper.
-pub record IsWhole {S : Type 0} (kind : StoreKind S) (handed : List (List ℕ) → Type 0) (asked : Settings) (status : ℕ)
+pub record IsWholeRun {S : Type 0} (kind : StoreKind S) (handed : List (List ℕ) → Type 0) (asked : Settings) (status : ℕ)
     (old new : Devices S) : Type 0 where
   pub opened : IsOpened kind handed asked status old new
   pub end : IsEndStatus status

@@ -10,7 +10,7 @@ use Rattle.wtf_core.specs.Named.{IsInside, IsBased, IsFull}
 use Rattle.wtf_core.specs.Keeping.{HoldsKept}
 use Rattle.wtf_core.specs.Quiet.{IsAtStage, HasCollected}
 use Rattle.wtf_core.specs.Telling.{TellsCore, IsWide, IsWithin}
-use Rattle.wtf_gc.specs.Extents.{covers}
+use Rattle.wtf_gc.specs.Extents.{extents_cover}
 use Rattle.wtf_serve.specs.Engines.{Engine}
 
 -- a core between two lines: it is open, its tables are sound, no number is watched, its servers are there, and all bytes
@@ -37,7 +37,7 @@ engine kind = record {
   wide = IsWide kind;
   within = IsWithin kind;
   kept = λ keeper core. HoldsKept keeper core.settings core.tables;
-  freed = λ core. covers core.tables.beside.gc.freed;
+  freed = λ core. extents_cover core.tables.beside.gc.freed;
   quiet = λ s shelf core. IsAtStage kind shelf core s;
   collected = λ k shelf core. HasCollected kind shelf core k;
 }

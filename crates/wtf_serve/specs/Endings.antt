@@ -68,7 +68,7 @@ stop_status stop.Memory = 7
 stop_status stop.TooMuch = 9
 
 -- The keeper holds what it held, as far as it is told, and nothing was handed to it.
-pub record IsKept (handed : List (List ℕ) → Type 0) (old new : KeeperView) : Type 0 where
+pub record IsKeeperKept (handed : List (List ℕ) → Type 0) (old new : KeeperView) : Type 0 where
   pub held : (bytes : List ℕ) → old.held ≡ Some bytes → new.held ≡ Some bytes
   pub nothing : handed []
 
@@ -80,7 +80,7 @@ pub record IsUnstarted {S : Type 0} (handed : List (List ℕ) → Type 0) (statu
   pub none : lines ≡ []
   pub source_is : new.source ≡ old.source
   pub shelf_is : new.stock.shelf ≡ old.stock.shelf
-  pub kept : IsKept handed old.stock.keeper new.stock.keeper
+  pub kept : IsKeeperKept handed old.stock.keeper new.stock.keeper
   pub sink_is : status ≢ 4 → new.sink ≡ old.sink
 
 -- how many faults the closing save adds to those of the lines: one, where no server was down

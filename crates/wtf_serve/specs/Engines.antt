@@ -109,7 +109,7 @@ is_save (Err bad) = false
 -- the state goes on: it is sound, under the same settings, and which servers are down follows the lines `down` and `up`; a line that
 -- asks nothing gets its own answer; an image that is kept for a keeper that tells goes on to be; a save begins no transaction; and only a spill
 -- makes a region's list a slice
-pub record GoesOn {S State : Type 0} (engine : Engine S State) (t : Step S State) (line : Line) (a : Answer) : Type 0 where
+pub record StateGoesOn {S State : Type 0} (engine : Engine S State) (t : Step S State) (line : Line) (a : Answer) : Type 0 where
   pub sound : engine.sound t.after.shelf t.new
   pub settings : engine.settings t.new ≡ engine.settings t.old
   pub down : engine.down t.new ≡ down_after (engine.down t.old) line a
@@ -123,13 +123,13 @@ pub record GoesOn {S State : Type 0} (engine : Engine S State) (t : Step S State
 
 -- what a line that was answered `saved` leaves on a keeper that tells: the image of the state before it, with its settings and
 -- its numbers
-abbrev pub Leaves : {S State : Type 0} → Engine S State → Step S State → Line → Answer → Type 0
-Leaves engine t (Ok event.Save) (answer.Saved n) =
+abbrev pub LineLeaves : {S State : Type 0} → Engine S State → Step S State → Line → Answer → Type 0
+LineLeaves engine t (Ok event.Save) (answer.Saved n) =
     HoldsJust engine.kind t.after (engine.settings t.old) (engine.number t.old) (engine.next_tx t.old)
-Leaves engine t line a = ⊤
+LineLeaves engine t line a = ⊤
 
 -- an image has room for the numbers
-pub record HasRoom {S State : Type 0} (engine : Engine S State) (state : State) : Type 0 where
+pub record StateHasRoom {S State : Type 0} (engine : Engine S State) (state : State) : Type 0 where
   pub number : engine.number state ≤ 2 ^ 62
   pub next_tx : engine.next_tx state ≤ 2 ^ 62
 
@@ -144,17 +144,17 @@ LeavesNamed engine t k =
 -- have saved, one that is kept for it, does so behind the line; one with which a run can begin, it holds on to such a one; and after `saved` that is the
 -- image of the state. A save of a machine of which nothing is open begins a quiet ending; and one behind a quiet ending leaves an image that
 -- names each byte of the server that was not freed.
-pub record IsLawful {S State : Type 0} (engine : Engine S State) (t : Step S State) (m : Machine) (line : Line) (a : Answer)
+pub record IsLineLawful {S State : Type 0} (engine : Engine S State) (t : Step S State) (m : Machine) (line : Line) (a : Answer)
     : Type 0 where
   pub stands : engine.stands t.after.shelf t.new (after_line m line a)
   pub may : MayLine m line a
   pub number : engine.number t.new ≡ (after_line m line a).number
-  pub saved : t.before.keeper.tells ≡ true → HasRoom engine t.old
+  pub saved : t.before.keeper.tells ≡ true → StateHasRoom engine t.old
       → engine.kept t.before.keeper t.old → HoldsOneOf engine.kind t.before m.may_be_saved → HoldsOneOf engine.kind t.after (after_line m line a).may_be_saved
-  pub taken : t.before.keeper.tells ≡ true → HasRoom engine t.old
+  pub taken : t.before.keeper.tells ≡ true → StateHasRoom engine t.old
       → HoldsStart engine.kind t.before (engine.settings t.old) (engine.number t.old) (engine.next_tx t.old)
       → HoldsStart engine.kind t.after (engine.settings t.old) (engine.number t.new) (engine.next_tx t.new)
-  pub leaves : t.before.keeper.tells ≡ true → HasRoom engine t.old → Leaves engine t line a
+  pub leaves : t.before.keeper.tells ≡ true → StateHasRoom engine t.old → LineLeaves engine t line a
   pub rests : IsIdle m → (n : ℕ) → line ≡ Ok event.Save → a ≡ answer.Saved n → engine.quiet Saved t.after.shelf t.new
   pub left : (k n : ℕ) → engine.collected k t.before.shelf t.old → line ≡ Ok event.Save → a ≡ answer.Saved n → t.before.keeper.tells ≡ true
       → LeavesNamed engine t k
@@ -162,7 +162,7 @@ pub record IsLawful {S State : Type 0} (engine : Engine S State) (t : Step S Sta
 -- the same of each machine that the state stands for, where the stores tell what it names
 abbrev pub Obeys : {S State : Type 0} → Engine S State → Step S State → Line → Answer → Type 0
 Obeys engine t line a =
-    engine.tells t.before.shelf t.old → (m : Machine) → engine.stands t.before.shelf t.old m → IsLawful engine t m line a
+    engine.tells t.before.shelf t.old → (m : Machine) → engine.stands t.before.shelf t.old m → IsLineLawful engine t m line a
 
 -- the stores grew by what the line writes
 abbrev pub Stores : {S State : Type 0} → Engine S State → Step S State → Line → Answer → Type 0
@@ -195,12 +195,12 @@ pub record IsToldAnswer {S State : Type 0} (engine : Engine S State) (t : Step S
       → engine.collected k t.after.shelf t.new
   pub stays : (k : ℕ) (s next : Stage) → line_stage s line a ≡ Some next → engine.collected k t.before.shelf t.old → engine.collected k t.after.shelf t.new
 
-abbrev pub Tells : {S State : Type 0} → Engine S State → Step S State → Line → Answer → Type 0
-Tells engine t line a =
+abbrev pub EngineTells : {S State : Type 0} → Engine S State → Step S State → Line → Answer → Type 0
+EngineTells engine t line a =
     engine.tells t.before.shelf t.old → (m : Machine) → engine.stands t.before.shelf t.old m → IsToldAnswer engine t line a
 
 -- the ranges that a line punched: each store follows what it was, with its own of these
-pub record Punches {S State : Type 0} (engine : Engine S State) (t : Step S State) (line : Line) (a : Answer) : Type 0 where
+pub record LinePunches {S State : Type 0} (engine : Engine S State) (t : Step S State) (line : Line) (a : Answer) : Type 0 where
   pub ranges : List (ℕ × Range)
   pub are : ArePunchedIn (engine.freed t.old) line a ranges
   pub counts : CountsIn (engine.freed t.old) (engine.freed t.new) a ranges
@@ -214,15 +214,15 @@ Saves engine t answer.FaultSave =
 Saves engine t a = ⊥
 
 -- a line that is no save hands the keeper nothing
-abbrev pub Keeps : {S State : Type 0} → Engine S State → Step S State → Line → Answer → Type 0
-Keeps engine t line a = MatchBool (is_save line) (Saves engine t a) (KeeperStays t.before.keeper t.after.keeper)
+abbrev pub HandsOnlySaves : {S State : Type 0} → Engine S State → Step S State → Line → Answer → Type 0
+HandsOnlySaves engine t line a = MatchBool (is_save line) (Saves engine t a) (KeeperStays t.before.keeper t.after.keeper)
 
 -- all seven
 pub record IsAnswer {S State : Type 0} (engine : Engine S State) (t : Step S State) (line : Line) (a : Answer) : Type 0 where
-  pub goes_on : GoesOn engine t line a
+  pub goes_on : StateGoesOn engine t line a
   pub lawful : Obeys engine t line a
   pub stored : Stores engine t line a
   pub caused : IsCaused engine t line a
-  pub told : Tells engine t line a
-  pub punched : Punches engine t line a
-  pub kept : Keeps engine t line a
+  pub told : EngineTells engine t line a
+  pub punched : LinePunches engine t line a
+  pub kept : HandsOnlySaves engine t line a

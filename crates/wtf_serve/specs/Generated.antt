@@ -9,10 +9,10 @@ use Rattle.wtf_model.specs.Tree.{Tree}
 use Rattle.wtf_meta.specs.Contents.{Told}
 use Rattle.wtf_gen.specs.Lines.{generated_script}
 use Rattle.wtf_script.specs.ScriptLines.{line_feed}
-use Rattle.wtf_summary.specs.Summaries.{shown}
+use Rattle.wtf_summary.specs.Summaries.{shown_text}
 use Rattle.wtf_serve.specs.Endings.{Devices, IsTold}
 use Rattle.wtf_serve.specs.Openings.{Opening}
-use Rattle.wtf_serve.specs.Unopened.{IsRun}
+use Rattle.wtf_serve.specs.Unopened.{IsRunWith}
 
 -- the script of a recipe
 abbrev pub script_of : Recipe → List ℕ
@@ -36,13 +36,13 @@ pub record IsFrontShown (lines : ℕ) (text before : List ℕ) (new : Option (Li
   pub feed_is : (feed ≡ []) ⊎ (feed ≡ line_feed ∷ [])
   pub front : List ℕ
   pub back : List ℕ
-  pub all : front ++ back ≡ shown lines (text ++ feed)
+  pub all : front ++ back ≡ shown_text lines (text ++ feed)
   pub new_is : new ≡ Some (before ++ front)
 
 -- A sink has what is shown of a text, its first line and a summary of so many lines behind it: all of it where no write
 -- failed, and else a front
 pub record Shows (lines : ℕ) (text : List ℕ) (faults : ℕ) (old new : SinkView) : Type 0 where
-  pub whole : faults ≡ 0 → (before : List ℕ) → old.taken ≡ Some before → new.taken ≡ Some (before ++ shown lines text)
+  pub whole : faults ≡ 0 → (before : List ℕ) → old.taken ≡ Some before → new.taken ≡ Some (before ++ shown_text lines text)
   pub cut : faults ≢ 0 → (before : List ℕ) → old.taken ≡ Some before → IsFrontShown lines text before new.taken
   pub cause : faults ≢ 0 → Rose old.faults new.faults
   pub still : faults ≡ 0 → new.faults ≡ old.faults
@@ -59,7 +59,7 @@ pub record IsGeneratedRun {S : Type 0} (kind : StoreKind S) (handed : List (List
   pub faults : ℕ
   pub whole : status ≢ 4 → faults ≡ 0
   pub text : List ℕ
-  pub run : IsRun kind handed settings status (with_script recipe old) (with_text left faults text new)
+  pub run : IsRunWith kind handed settings status (with_script recipe old) (with_text left faults text new)
   pub shows : Shows recipe.lines text faults old.sink new.sink
 
 -- The headline of a run of a generated script that was answered to its end: that of a script which is read, whose text is
@@ -67,4 +67,4 @@ pub record IsGeneratedRun {S : Type 0} (kind : StoreKind S) (handed : List (List
 pub record IsToldOf (told : Told) (size : ℕ → ℕ → ℕ) (opening : Opening) (t : Tree) (recipe : Recipe) (written kept : List ℕ) : Type 0 where
   pub text : List ℕ
   pub told_is : IsTold told size opening t (script_of recipe) text kept
-  pub wrote : written ≡ shown recipe.lines text
+  pub wrote : written ≡ shown_text recipe.lines text

@@ -11,7 +11,7 @@ use Rattle.wtf_serve.specs.Scripts.{line_of}
 use Rattle.wtf_serve.specs.Engines.{Engine, Step}
 use Rattle.wtf_serve.specs.Answering.{IsFormLine}
 use Rattle.wtf_serve.specs.Stocks.{Stock, KeeperGoesOn}
-use Rattle.wtf_serve.specs.Turns.{IsDone, IsCutOff, IsLeftAlone, IsUnwritten}
+use Rattle.wtf_serve.specs.Turns.{IsLineDone, IsCutOff, IsLeftAlone, IsUnwritten}
 
 -- what a run reads its lines from: the source, and what the reader holds of it
 pub record Input : Type 0 where
@@ -85,7 +85,7 @@ pub record IsAnswered {S State : Type 0} (engine : Engine S State) (h h' : Hand 
   pub line : List ℕ
   pub bad_is : is_err (line_of line) ≡ bad
   pub came : CameLine h.input h'.input line
-  pub done : IsDone engine (step_of h h') (line_of line) h.sink h'.sink
+  pub done : IsLineDone engine (step_of h h') (line_of line) h.sink h'.sink
   pub less : work h'.input.held < work h.input.held
 
 -- one line was read, and that line was answered, and its answer cut
@@ -107,7 +107,7 @@ pub record IsQuiet {S State : Type 0} (h h' : Hand S State) : Type 0 where
   pub sink : h'.sink ≡ h.sink
 
 -- for want of memory nothing is written, and the keeper is as it was, and nothing was punched, unless a line was answered before
-pub record IsShort {S State : Type 0} (engine : Engine S State) (h h' : Hand S State) : Type 0 where
+pub record IsShortOfMemory {S State : Type 0} (engine : Engine S State) (h h' : Hand S State) : Type 0 where
   pub sink : h'.sink ≡ h.sink
   pub kept : IsLeftAlone engine (step_of h h') ⊎ IsLeftOut engine h h'
 
@@ -116,10 +116,10 @@ abbrev pub PassCame : {S State : Type 0} → Engine S State → Hand S State →
 PassCame engine h h' (Ok (Some bad)) = IsAnswered engine h h' bad
 PassCame engine h h' (Ok None) = CameEnd h.input h'.input × IsQuiet h h'
 PassCame engine h h' (Err stop.Unwritten) = IsCutShort engine h h'
-PassCame engine h h' (Err stop.Memory) = IsShort engine h h'
+PassCame engine h h' (Err stop.Memory) = IsShortOfMemory engine h h'
 PassCame engine h h' (Err why) = CameStop h.input h'.input why × IsQuiet h h'
 
--- all of it; what a line that was answered punched is said by its answer (`Punches`), and where none was the stock is what it was (`IsQuiet`)
+-- all of it; what a line that was answered punched is said by its answer (`LinePunches`), and where none was the stock is what it was (`IsQuiet`)
 pub record PassIs {S State : Type 0} (engine : Engine S State) (h h' : Hand S State) (result : Result (Option Bool) Stop) : Type 0 where
   pub came : PassCame engine h h' result
   pub drawn : HasDrawn h.input h'.input

@@ -10,11 +10,11 @@ use Rattle.wtf_image.specs.Images.{HasText}
 use Rattle.wtf_image.specs.Rules.{AreGoodSettings}
 use Rattle.wtf_serve.specs.Endings.{Devices}
 use Rattle.wtf_serve.specs.Generated.{IsGeneratedRun}
-use Rattle.wtf_serve.specs.Unopened.{IsRun, IsRunStatus, IsRefusedImage}
+use Rattle.wtf_serve.specs.Unopened.{IsRunWith, IsRunStatus, IsRefusedImage}
 
 -- a whole run of a script, by where that comes from, over the devices before and after it
 abbrev pub IsScriptRun : {S : Type 0} → StoreKind S → (List (List ℕ) → Type 0) → Settings → Script → ℕ → Devices S × Devices S → Type 0
-IsScriptRun kind handed settings script.Read status (old, new) = IsRun kind handed settings status old new
+IsScriptRun kind handed settings script.Read status (old, new) = IsRunWith kind handed settings status old new
 IsScriptRun kind handed settings (script.Generated recipe) status (old, new) = IsGeneratedRun kind handed settings recipe status old new
 
 -- a whole run over the servers and copies, and of the script, that were asked for
@@ -48,16 +48,16 @@ IsFew asked [] stores = stores < asked.servers
 IsFew asked (b ∷ bytes) stores = HasManyServers (b ∷ bytes) stores
 
 -- The words are refused, or so many stores cannot serve what they ask for, where the keeper holds these bytes
-abbrev pub IsRefused : Option Request → List ℕ → ℕ → Type 0
-IsRefused None held stores = ⊤
-IsRefused (Some asked) held stores = IsFew asked.numbers held stores
+abbrev pub AreWordsRefused : Option Request → List ℕ → ℕ → Type 0
+AreWordsRefused None held stores = ⊤
+AreWordsRefused (Some asked) held stores = IsFew asked.numbers held stores
 
 -- What a status says, by what the words ask for, and by what the keeper holds, where that is seen: it is one of a run's; words that are refused end
 -- with 2, or for want of memory with 7; and 2 and 6 stand for just what is refused, but where memory, the keeper or the sink ended the run first.
 pub record IsStatusOf (size : ℕ → ℕ → ℕ) (stores : ℕ) (asked : Option Request) (held : Option (List ℕ)) (status : ℕ) : Type 0 where
   pub known : IsRunStatus status
   pub words : asked ≡ None → (status ≡ 2) ⊎ (status ≡ 7)
-  pub refused : (bytes : List ℕ) → held ≡ Some bytes → (status ≡ 2) ↔ ((status ≢ 7) × (status ≢ 8) × IsRefused asked bytes stores)
+  pub refused : (bytes : List ℕ) → held ≡ Some bytes → (status ≡ 2) ↔ ((status ≢ 7) × (status ≢ 8) × AreWordsRefused asked bytes stores)
   pub image : (bytes : List ℕ) → held ≡ Some bytes
       → (status ≡ 6) ↔ ((status ≢ 2) × (status ≢ 4) × (status ≢ 7) × (status ≢ 8) × IsRefusedImage size stores bytes)
 

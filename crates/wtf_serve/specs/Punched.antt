@@ -6,7 +6,7 @@ use Rattle.wtf_model.specs.declared.answer.Answer.{Answer}
 use Rattle.wtf_model.specs.declared.answer.Answer.TheVariants as answer
 use Rattle.wtf_model.specs.declared.event.Event.TheVariants as event
 use Rattle.wtf_model.specs.Lines.{Line}
-use Rattle.wtf_gc.specs.Frees.{AreApart, bytes_of, lie_in}
+use Rattle.wtf_gc.specs.Frees.{AreApart, ranges_len, lie_in}
 
 -- the ranges lie on server k, share no byte, and have none that was freed before
 pub record AreFresh (freed : Place → Bool) (k : ℕ) (ranges : List (ℕ × Range)) : Type 0 where
@@ -20,7 +20,7 @@ collected_by a = 0
 
 -- A collection punches such ranges on its server, of as many bytes as it answers where it does not fail; no other line punches one, or says so.
 abbrev pub ArePunchedIn : (Place → Bool) → Line → Answer → List (ℕ × Range) → Type 0
-ArePunchedIn freed (Ok (event.Collect k)) (answer.Collected n) ranges = AreFresh freed k ranges × (n ≡ bytes_of ranges)
+ArePunchedIn freed (Ok (event.Collect k)) (answer.Collected n) ranges = AreFresh freed k ranges × (n ≡ ranges_len ranges)
 ArePunchedIn freed (Ok (event.Collect k)) (answer.FaultPunch j) ranges = AreFresh freed k ranges
 ArePunchedIn freed line a ranges = (ranges ≡ []) × (collected_by a ≡ 0)
 

@@ -11,7 +11,7 @@ use Rattle.wtf_model.specs.Lines.{MayLine, Along, events_of, answers_to}
 use Rattle.wtf_model.specs.Servers.{none_down, AlongDowns, is_device_fault, is_device_fault_of_run, count_along}
 use Rattle.wtf_core.specs.Pictured.{IsBareImage}
 use Rattle.wtf_core.specs.Telling.{stores_of}
-use Rattle.wtf_gc.specs.Frees.{AreApart, bytes_of}
+use Rattle.wtf_gc.specs.Frees.{AreApart, ranges_len}
 use Rattle.wtf_serve.specs.Answering.{IsOwnAnswer}
 use Rattle.wtf_serve.specs.Openings.{Opening, StartsFrom, first}
 use Rattle.wtf_serve.specs.Logs.{Log, asked, IsUndamaged, write_fault_count, written_bytes, IsUnspilledLog}
@@ -61,4 +61,4 @@ pub record Ran {S : Type 0} (kind : StoreKind S) (opening : Opening) (log : Log)
   -- share a byte, and they have as many bytes as the collections answered to have freed.
   pub punched : List (ℕ × Range)
   pub follows_on : EachFollows kind before.shelf after.shelf punched
-  pub freed : punch_fault_count log.answers ≡ 0 → AreApart punched × (bytes_of punched ≡ collected_bytes log.answers)
+  pub freed : punch_fault_count log.answers ≡ 0 → AreApart punched × (ranges_len punched ≡ collected_bytes log.answers)

@@ -21,7 +21,7 @@ AllTaken old text new (Ok u) = new ≡ Some (old ++ text)
 AllTaken old text new (Err e) = WroteFront old text new
 
 -- a line was answered, and its text was written whole
-pub record IsDone {S State : Type 0} (engine : Engine S State) (t : Step S State) (line : Line) (sink sink' : SinkView) : Type 0 where
+pub record IsLineDone {S State : Type 0} (engine : Engine S State) (t : Step S State) (line : Line) (sink sink' : SinkView) : Type 0 where
   pub answer : Answer
   pub is : IsAnswer engine t line answer
   pub wrote : (old : List ℕ) → sink.taken ≡ Some old → sink'.taken ≡ Some (old ++ line_text answer)
@@ -46,7 +46,7 @@ pub record IsUnwritten {S State : Type 0} (engine : Engine S State) (t : Step S 
 
 -- what came of a line: for want of memory nothing is written, and unless it was answered the keeper was handed nothing, and nothing was punched
 abbrev pub TurnIs : {S State : Type 0} → Engine S State → Step S State → Line → SinkView → SinkView → Result (Unit {0}) Stop → Type 0
-TurnIs engine t line sink sink' (Ok u) = IsDone engine t line sink sink'
+TurnIs engine t line sink sink' (Ok u) = IsLineDone engine t line sink sink'
 TurnIs engine t line sink sink' (Err stop.Unwritten) = IsCutOff engine t line sink sink'
 TurnIs engine t line sink sink' (Err stop.Memory) = (sink' ≡ sink) × (IsLeftAlone engine t ⊎ IsUnwritten engine t line)
 TurnIs engine t line sink sink' (Err other) = ⊥

@@ -9,10 +9,10 @@ use Rattle.wtf_image.specs.declared.error.LoadError.TheVariants as error
 use Rattle.wtf_image.specs.Rows.{ImageRows}
 use Rattle.wtf_image.specs.Images.{HasText}
 use Rattle.wtf_image.specs.Rules.{AreGoodSettings, size_in}
-use Rattle.wtf_image.specs.Loading.{IsRefusal}
+use Rattle.wtf_image.specs.Loading.{IsLoadRefusal}
 use Rattle.wtf_script.specs.ScriptLines.{line_feed}
 use Rattle.wtf_serve.specs.Openings.{Opening, Opens}
-use Rattle.wtf_serve.specs.Endings.{Devices, IsKept, Served}
+use Rattle.wtf_serve.specs.Endings.{Devices, IsKeeperKept, Served}
 use Rattle.wtf_serve.specs.Turns.{WroteFront}
 
 -- the line of a refused image: the number of the refusal, and its name
@@ -33,7 +33,7 @@ HasServers bytes stores = (x : ImageRows) → HasText x bytes → AreGoodSetting
 -- an image is refused, by the first of the rules that it breaks
 pub record IsRefusedBy (size : ℕ → ℕ → ℕ) (stores : ℕ) (bytes : List ℕ) (why : LoadError) : Type 0 where
   pub some : bytes ≢ []
-  pub refusal : IsRefusal size bytes why
+  pub refusal : IsLoadRefusal size bytes why
   pub not_memory : why ≢ error.Memory
   -- with fewer stores than that the run ends before the tree is looked at
   pub enough : HasServers bytes stores
@@ -71,7 +71,7 @@ pub record IsUnopened {S : Type 0} (kind : StoreKind S) (handed : List (List ℕ
   pub why : IsWhy kind status old new
   pub source_is : new.source ≡ old.source
   pub shelf_is : new.stock.shelf ≡ old.stock.shelf
-  pub kept : IsKept handed old.stock.keeper new.stock.keeper
+  pub kept : IsKeeperKept handed old.stock.keeper new.stock.keeper
 
 -- A run that was opened by what the keeper gave, which is what it held where it tells that
 pub record IsOpened {S : Type 0} (kind : StoreKind S) (handed : List (List ℕ) → Type 0) (settings : Settings) (status : ℕ)
@@ -82,8 +82,8 @@ pub record IsOpened {S : Type 0} (kind : StoreKind S) (handed : List (List ℕ) 
   pub served : Served kind handed opening status old new
 
 -- a whole run, where these settings were asked for
-abbrev pub IsRun : {S : Type 0} → StoreKind S → (List (List ℕ) → Type 0) → Settings → ℕ → Devices S → Devices S → Type 0
-IsRun kind handed settings status old new = IsUnopened kind handed status old new ⊎ IsOpened kind handed settings status old new
+abbrev pub IsRunWith : {S : Type 0} → StoreKind S → (List (List ℕ) → Type 0) → Settings → ℕ → Devices S → Devices S → Type 0
+IsRunWith kind handed settings status old new = IsUnopened kind handed status old new ⊎ IsOpened kind handed settings status old new
 
 -- the statuses of runs
 abbrev pub IsRunStatus : ℕ → Type 0

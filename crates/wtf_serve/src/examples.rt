@@ -6,8 +6,8 @@ ghost use Rattle.wtf_replica.specs.Bytes.{byte_at};
 ghost use Rattle.wtf_core.specs.Telling.{stores_of};
 ghost use Rattle.wtf_serve.specs.Endings.{Devices};
 ghost use Rattle.wtf_serve.specs.Openings.{StartsFrom};
-ghost use Rattle.wtf_serve.specs.Unopened.{IsOpened, IsRun};
-ghost use Rattle.wtf_serve.specs.Continued.{IsWhole, BeginsBehind, GoesOnFrom};
+ghost use Rattle.wtf_serve.specs.Unopened.{IsOpened, IsRunWith};
+ghost use Rattle.wtf_serve.specs.Continued.{IsWholeRun, BeginsBehind, GoesOnFrom};
 
 use wtf_dev::{Keeper, SliceStore};
 
@@ -18,19 +18,19 @@ use wtf_dev::{Keeper, SliceStore};
 pub fn a_run_goes_on_where_the_last_one_ended<S: SliceStore, K: Keeper>()
     ensures begins { (a b c d : K) (asked asked' : Settings) (status status' : ℕ)
         (old new old' new' : Devices S)
-        (whole : IsWhole S.kind (K.follows a b) asked status old new) →
-        BeginsBehind new old' whole.kept → IsRun S.kind (K.follows c d) asked' status' old' new' →
+        (whole : IsWholeRun S.kind (K.follows a b) asked status old new) →
+        BeginsBehind new old' whole.kept → IsRunWith S.kind (K.follows c d) asked' status' old' new' →
         (status' ≢ 6) × (status' ≢ 2) }
     ensures goes_on { (a b c d : K) (asked asked' : Settings) (status status' : ℕ)
         (old new old' new' : Devices S)
-        (whole : IsWhole S.kind (K.follows a b) asked status old new) →
+        (whole : IsWholeRun S.kind (K.follows a b) asked status old new) →
         BeginsBehind new old' whole.kept →
         (next : IsOpened S.kind (K.follows c d) asked' status' old' new') →
         GoesOnFrom (byte_at S.kind old'.stock.shelf) whole.opened.opening whole.tree
         whole.opened.served.log next.opening }
     ensures within { (a b c d : K) (asked asked' : Settings) (status status' : ℕ)
         (old new old' new' : Devices S)
-        (whole : IsWhole S.kind (K.follows a b) asked status old new) →
+        (whole : IsWholeRun S.kind (K.follows a b) asked status old new) →
         BeginsBehind new old' whole.kept →
         StartsFrom (byte_at S.kind (stores_of whole.opened.opening.settings old.stock.shelf))
         whole.opened.opening.bytes whole.tree →

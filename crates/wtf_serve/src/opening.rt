@@ -5,8 +5,8 @@ ghost use Rattle.wtf_dev.specs.Streams.{SourceView};
 ghost use Rattle.wtf_image.specs.declared.error.LoadError.TheVariants as error;
 ghost use Rattle.wtf_serve.specs.Beginnings.{IsOpenedBy, IsUnopenedBy, IsOpenedFrom, EndsBy};
 ghost use Rattle.wtf_serve.specs.Cores.{engine};
-ghost use Rattle.wtf_serve.specs.Endings.{devices, IsKept};
-ghost use Rattle.wtf_serve.specs.Unopened.{IsRun, refusal_line, Refuses};
+ghost use Rattle.wtf_serve.specs.Endings.{devices, IsKeeperKept};
+ghost use Rattle.wtf_serve.specs.Unopened.{IsRunWith, refusal_line, Refuses};
 
 use crate::service::{
     IMAGE_REFUSED, LOADING_FAILED, OUT_OF_MEMORY, WORDS_REFUSED, WRITING_FAILED, write_all,
@@ -132,10 +132,10 @@ pub(crate) fn open<O: Sink, S: SliceStore, K: Keeper>(
     ensures opened { IfOk result
         (IsOpenedFrom (engine S.kind) settings (K.view keeper.old) shelf.now) }
     ensures unopened { IfErr result (λ status. (source : SourceView) →
-        IsRun S.kind (K.follows keeper.old keeper.new) settings status
+        IsRunWith S.kind (K.follows keeper.old keeper.new) settings status
         (devices source (O.view out.old) shelf.now (K.view keeper.old))
         (devices source (O.view out.new) shelf.now (K.view keeper.new))) }
-    ensures kept { IsKept (K.follows keeper.old keeper.new) (K.view keeper.old)
+    ensures kept { IsKeeperKept (K.follows keeper.old keeper.new) (K.view keeper.old)
         (K.view keeper.new) }
     ensures unwritten { OnOk result (out.new ≡ out.old) }
     ensures refused { result ≡ Err 2 → out.new ≡ out.old }

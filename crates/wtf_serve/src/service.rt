@@ -5,7 +5,7 @@ ghost use Rattle.wtf_dev.specs.Counts.{Rose};
 ghost use Rattle.wtf_dev.specs.Each.{EachFollows};
 ghost use Rattle.wtf_model.specs.declared.event.Event.TheVariants.{Save};
 ghost use Rattle.wtf_serve.specs.Endings.{devices, stop_status};
-ghost use Rattle.wtf_serve.specs.Unopened.{IsRun};
+ghost use Rattle.wtf_serve.specs.Unopened.{IsRunWith};
 ghost use Rattle.wtf_serve.specs.Turns.{AllTaken, TurnIs};
 ghost use Rattle.wtf_serve.specs.Passes.{Came, HasDrawn, PassIs, IsFormRead, input, hand};
 ghost use Rattle.wtf_serve.specs.Answering.{IsFormLine};
@@ -333,7 +333,7 @@ pub fn serve<I: Source, O: Sink, S: SliceStore, K: Keeper>(
     shelf: &mut Shelf<S>,
     keeper: &mut K,
 ) -> u8
-    ensures served { IsRun S.kind (K.follows keeper.old keeper.new) settings result
+    ensures served { IsRunWith S.kind (K.follows keeper.old keeper.new) settings result
         (devices (I.view script.old) (O.view out.old) shelf.old (K.view keeper.old))
         (devices (I.view script.new) (O.view out.new) shelf.new (K.view keeper.new)) }
     ensures unread { result ≡ 2 → script.new ≡ script.old }

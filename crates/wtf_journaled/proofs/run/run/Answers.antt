@@ -4,7 +4,7 @@ use Rattle.wtf_serve.specs.Passes.{PassIs, input}
 use Rattle.wtf_serve.specs.Scripts.{settings_line}
 use Rattle.wtf_journaled.specs.declared.halt.Halt.{Halt}
 use Rattle.wtf_journaled.specs.Breaks.{stopped}
-use Rattle.wtf_journaled.specs.Engine.{in_hand, journaled, journaled_engine}
+use Rattle.wtf_journaled.specs.Engine.{journaled_hand, journaled, journaled_engine}
 use Rattle.wtf_journaled.specs.Runs.{IsJournaledRun, on_devices}
 use Rattle.wtf_journaled.proofs.Exits.{Journaling, halted, journaled_end, journaling_first, journaling_on, short_first, unwritten_first}
 use Rattle.wtf_journaled.proofs.run.run.Given.{Over}
@@ -52,7 +52,7 @@ loop-more-init g c =
     let start = on_devices (g.I.Source.view c.args.script.now) (g.O.Sink.view c.args.out.now) c.args.shelf.now c.args.disk.now in
     record {
       so_far = subst (λ (held : Held). Journaling stores kind g.met.S.Disk.laws g.met.D.Disk.laws c.args.settings start
-          (in_hand kind (input (g.I.Source.view c.args.script.now) held) (g.O.Sink.view c.write_all.new.out) c.open.new.shelf
+          (journaled_hand kind (input (g.I.Source.view c.args.script.now) held) (g.O.Sink.view c.write_all.new.out) c.open.new.shelf
           (journaled c.in-Ok.durable c.open.new.disk)) false) (sym c.in-Ok-new.ensures)
           (journaling_first stores kind g.met.S.Disk.laws g.met.D.Disk.laws c.args.settings start c.open.new.shelf c.open.new.disk c.in-Ok.durable
           c.in-Ok.ensures.opened c.open.ensures.follows c.open.ensures.goes_on c.open.ensures.any_moment c.in-Ok.ensures.exact
@@ -64,9 +64,9 @@ loop-more-preserved g c =
     let stores = g.S.Disk.kind in
     let kind = g.D.Disk.kind in
     let start = on_devices (g.I.Source.view c.args.script.now) (g.O.Sink.view c.args.out.now) c.args.shelf.now c.args.disk.now in
-    let now = in_hand kind (input (g.I.Source.view c.loop-more.script) c.loop-more.reader.lines) (g.O.Sink.view c.loop-more.out) c.loop-more.shelf
+    let now = journaled_hand kind (input (g.I.Source.view c.loop-more.script) c.loop-more.reader.lines) (g.O.Sink.view c.loop-more.out) c.loop-more.shelf
     (journaled c.loop-more.durable c.loop-more.disk) in
-    let next = in_hand kind (input (g.I.Source.view c.pass.new.script) c.pass.new.reader.lines) (g.O.Sink.view c.pass.new.out) c.pass.new.shelf
+    let next = journaled_hand kind (input (g.I.Source.view c.pass.new.script) c.pass.new.reader.lines) (g.O.Sink.view c.pass.new.out) c.pass.new.shelf
     (journaled c.pass.new.durable c.pass.new.disk) in
     let is : c.pass.result ≡ Ok (Some c.in-Ok-Some.more) = cc in
     record {
@@ -81,9 +81,9 @@ returns-in-Ok-None g c =
     let stores = g.S.Disk.kind in
     let kind = g.D.Disk.kind in
     let start = on_devices (g.I.Source.view c.args.script.now) (g.O.Sink.view c.args.out.now) c.args.shelf.now c.args.disk.now in
-    let now = in_hand kind (input (g.I.Source.view c.loop-more.script) c.loop-more.reader.lines) (g.O.Sink.view c.loop-more.out) c.loop-more.shelf
+    let now = journaled_hand kind (input (g.I.Source.view c.loop-more.script) c.loop-more.reader.lines) (g.O.Sink.view c.loop-more.out) c.loop-more.shelf
     (journaled c.loop-more.durable c.loop-more.disk) in
-    let next = in_hand kind (input (g.I.Source.view c.pass.new.script) c.pass.new.reader.lines) (g.O.Sink.view c.pass.new.out) c.pass.new.shelf
+    let next = journaled_hand kind (input (g.I.Source.view c.pass.new.script) c.pass.new.reader.lines) (g.O.Sink.view c.pass.new.out) c.pass.new.shelf
     (journaled c.pass.new.durable c.pass.new.disk) in
     let is : c.pass.result ≡ Ok None = cc in
     record {
@@ -98,9 +98,9 @@ returns-in-Err-pass g c =
     let stores = g.S.Disk.kind in
     let kind = g.D.Disk.kind in
     let start = on_devices (g.I.Source.view c.args.script.now) (g.O.Sink.view c.args.out.now) c.args.shelf.now c.args.disk.now in
-    let now = in_hand kind (input (g.I.Source.view c.loop-more.script) c.loop-more.reader.lines) (g.O.Sink.view c.loop-more.out) c.loop-more.shelf
+    let now = journaled_hand kind (input (g.I.Source.view c.loop-more.script) c.loop-more.reader.lines) (g.O.Sink.view c.loop-more.out) c.loop-more.shelf
     (journaled c.loop-more.durable c.loop-more.disk) in
-    let next = in_hand kind (input (g.I.Source.view c.pass.new.script) c.pass.new.reader.lines) (g.O.Sink.view c.pass.new.out) c.pass.new.shelf
+    let next = journaled_hand kind (input (g.I.Source.view c.pass.new.script) c.pass.new.reader.lines) (g.O.Sink.view c.pass.new.out) c.pass.new.shelf
     (journaled c.pass.new.durable c.pass.new.disk) in
     let is : c.pass.result ≡ Err c.in-Err-pass.halt = cc in
     record {

@@ -1,5 +1,5 @@
 use Rattle.std.proofs.Common.{◌∙◌}
-use Rattle.wtf_serve.specs.Endings.{IsKept}
+use Rattle.wtf_serve.specs.Endings.{IsKeeperKept}
 use Rattle.wtf_serve.specs.Stocks.{KeeperGoesOn}
 use Rattle.wtf_serve.proofs.Keeping.{handed_on}
 use Rattle.wtf_serve.proofs.Unopening.{not_opened}
@@ -20,7 +20,7 @@ returns-clause-unopened g c = λ source.
     let view = g.K.Keeper.view in
     let old = c.args.keeper.now in
     let new = c.load.new.self in
-    let kept : IsKept (g.K.Keeper.follows old new) (view old) (view new) = record { held = c.load.ensures.held; nothing = c.load.ensures.follows } in
+    let kept : IsKeeperKept (g.K.Keeper.follows old new) (view old) (view new) = record { held = c.load.ensures.held; nothing = c.load.ensures.follows } in
     let keeper : KeeperGoesOn (view old) (view new) = handed_on view g.K.Keeper.follows g.met.K.Keeper.follows_itself g.met.K.Keeper.keeps old new
     (_, c.load.ensures.follows) in
     not_opened g.S.SliceStore.kind g.met.S.SliceStore.laws (g.K.Keeper.follows old new) c.args.settings c.args.shelf.now (view old)

@@ -9,7 +9,7 @@ use Rattle.wtf_serve.specs.Engines.{step}
 use Rattle.wtf_serve.specs.Passes.{input, hand, PassIs}
 use Rattle.wtf_serve.specs.Scripts.{settings_line}
 use Rattle.wtf_serve.specs.Stocks.{stock, KeeperGoesOn}
-use Rattle.wtf_serve.specs.Unopened.{IsRun}
+use Rattle.wtf_serve.specs.Unopened.{IsRunWith}
 use Rattle.wtf_serve.proofs.Keeping.{handed_on, handed_join}
 use Rattle.wtf_serve.proofs.Leaving.{core_keeps}
 use Rattle.wtf_serve.proofs.Underway.{Underway, underway_first, unwritten_first, underway_on, underway_end, underway_stop, stop_not_few, end_not_few}
@@ -143,7 +143,7 @@ returns-in-Err-pass-clause-served g c =
     let next = hand (input (g.I.Source.view c.pass.new.script) c.pass.new.reader.lines) (g.O.Sink.view c.pass.new.out)
     (stock c.pass.new.shelf (view c.pass.new.keeper)) c.pass.new.core in
     let is : c.pass.result ≡ Err c.in-Err-pass.stop = cc in
-    subst (λ (n : ℕ). IsRun kind handed c.args.settings n start (record { source = next.input.source; sink = next.sink; stock = next.stock }))
+    subst (λ (n : ℕ). IsRunWith kind handed c.args.settings n start (record { source = next.input.source; sink = next.sink; stock = next.stock }))
     (sym c.status.ensures)
     (underway_stop (engine kind) laws handed c.args.settings start now next c.loop-more.bad c.loop-more.invariant.run
     (core_keeps kind) c.in-Err-pass.stop
