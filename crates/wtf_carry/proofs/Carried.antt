@@ -7,14 +7,14 @@ use Rattle.std.proofs.lemmas.List.Elements.{All-nil, All-cons, All-head, All-tai
 use Rattle.wtf_path.specs.Grammar.{IsPath}
 use Rattle.wtf_model.specs.declared.limits.TheConstants.{MAX_NUMBER}
 use Rattle.wtf_script.specs.ScriptLines.{line_feed}
-use Rattle.wtf_carry.specs.Asked.{Asked, Asks, Way, text_of, turn, total, carried, begin_line, open_line, seek_line, mkdir_line}
+use Rattle.wtf_carry.specs.Asked.{Asked, Asks, Way, asked_text, turn, total, carried, begin_line, open_line, seek_line, mkdir_line}
 use Rattle.wtf_carry.specs.Ways.{IsWayUp, mkdirs}
 use Rattle.wtf_carry.specs.Puts.{joined}
 use Rattle.wtf_carry.proofs.Events.{begin-asks, open-asks, seek-asks, mkdir-asks}
 
 -- ---- one more
 
-pub text_of-append : (xs ys : List Asked) → text_of (xs ++ ys) ≡ text_of xs ++ text_of ys
+pub text_of-append : (xs ys : List Asked) → asked_text (xs ++ ys) ≡ asked_text xs ++ asked_text ys
 text_of-append xs ys = flat_map-append (λ a. a.line ++ line_feed ∷ []) xs ys
 
 pub total-push : {A : Type 0} (size : A → ℕ) (xs : List A) (x : A) → total size (xs ++ x ∷ []) ≡ total size xs + size x
@@ -44,11 +44,14 @@ joined-size [] = refl
 joined-size (piece ∷ pieces) = omega (arith, length-append piece (joined pieces), joined-size pieces)
 
 -- a text with more lines behind it
-pub texts-more : (old before now : List ℕ) (xs ys : List Asked) → before ≡ old ++ text_of xs → now ≡ before ++ text_of ys → now ≡ old ++ text_of (xs ++ ys)
+pub texts-more : (old before now : List ℕ) (xs ys : List Asked) → before ≡ old ++ asked_text xs → now ≡ before ++ asked_text ys
+    → now ≡ old ++ asked_text (xs ++ ys)
 texts-more old before now xs ys p q =
-    q ∙ ap (λ (l : List ℕ). l ++ text_of ys) p ∙ append_assoc old (text_of xs) (text_of ys) ∙ ap (λ (l : List ℕ). old ++ l) (sym (text_of-append xs ys))
+    q ∙ ap (λ (l : List ℕ). l ++ asked_text ys) p ∙ append_assoc old (asked_text xs) (asked_text ys) ∙ ap (λ (l : List ℕ). old ++ l)
+    (sym (text_of-append xs ys))
 
-pub text-more : (old before now : List ℕ) (xs : List Asked) (a : Asked) → before ≡ old ++ text_of xs → now ≡ before ++ (a.line ++ line_feed ∷ []) → now ≡ old ++ text_of (xs ++ a ∷ [])
+pub text-more : (old before now : List ℕ) (xs : List Asked) (a : Asked) → before ≡ old ++ asked_text xs → now ≡ before ++ (a.line ++ line_feed ∷ [])
+    → now ≡ old ++ asked_text (xs ++ a ∷ [])
 text-more old before now xs a p q = texts-more old before now xs (a ∷ []) p (q ∙ ap (λ (l : List ℕ). before ++ l) (sym (append-nil (a.line ++ line_feed ∷ []))))
 
 -- ---- what they ask

@@ -36,8 +36,7 @@ digit-stands : (b : ℕ) → is_digit b ≡ true → is_printable b ≡ true
 digit-stands b h = grind (arith, nat_tests)
 
 pub number-stands : (n : ℕ) → n < 2 ^ 64 → CanStand (decimal n)
-number-stands n h =
-    from_each (decimal n) (All-weaker (λ b. is_digit b ≡ true) (λ b. is_printable b ≡ true) digit-stands (decimal n)
+number-stands n h = from_each (decimal n) (All-weaker (λ b. is_digit b ≡ true) (λ b. is_printable b ≡ true) digit-stands (decimal n)
     (AllPass-from_list_all is_digit (decimal n) (digits_decimal digits n h)))
 
 -- ---- bytes

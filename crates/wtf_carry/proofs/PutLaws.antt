@@ -1,5 +1,31 @@
 -- How the lines that put a file come to be written, piece by piece.
-use Rattle.std.proofs.Common.{◌≡◌, ℕ, ◌+◌, ◌<◌, ◌≤◌, List, [], ◌∷◌, ◌++◌, length, take, drop, Option, Some, None, refl, sym, ap, ◌∙◌, arith, append_assoc, subst, Result, Ok, Err}
+use Rattle.std.proofs.Common.{
+  ◌≡◌,
+  ℕ,
+  ◌+◌,
+  ◌<◌,
+  ◌≤◌,
+  List,
+  [],
+  ◌∷◌,
+  ◌++◌,
+  length,
+  take,
+  drop,
+  Option,
+  Some,
+  None,
+  refl,
+  sym,
+  ap,
+  ◌∙◌,
+  arith,
+  append_assoc,
+  subst,
+  Result,
+  Ok,
+  Err,
+}
 use Rattle.std.specs.Prelude.{All}
 use Rattle.std.proofs.lemmas.List.{length-append, append-nil, length-take-le, take-append-drop}
 use Rattle.std.proofs.lemmas.List.Elements.{All-nil, All-cons, All-append, All-weaker}
@@ -9,7 +35,7 @@ use Rattle.wtf_model.specs.declared.limits.TheConstants.{MAX_WRITTEN}
 use Rattle.wtf_carry.specs.declared.stop.Stop.{Stop}
 use Rattle.wtf_carry.specs.declared.stop.Stop.TheVariants as stop
 use Rattle.wtf_carry.specs.declared.TheConstants.{MOST_BYTES}
-use Rattle.wtf_carry.specs.Asked.{Asked, Asks, text_of, turn, carried, writes, begin_line, try_line, create_line, open_line, write_line}
+use Rattle.wtf_carry.specs.Asked.{Asked, Asks, asked_text, turn, carried, writes, begin_line, try_line, create_line, open_line, write_line}
 use Rattle.wtf_carry.specs.Ways.{IsWayUp, mkdirs}
 use Rattle.wtf_carry.specs.Puts.{head_lines, joined, IsPiece, Puts, HasHead, Carries, CarriesEnd, CarriesTo, passage, Sofar}
 use Rattle.wtf_carry.proofs.Events.{begin-asks, try-asks, create-asks, open-asks, write-asks}
@@ -28,15 +54,16 @@ sofar-start path all old head left new h from to = record {
   sized = All-nil IsPiece;
   count = refl;
   size = refl;
-  new_is = to ∙ ap Some (ap (λ (l : List ℕ). old ++ l) (h.new_is ∙ ap text_of (sym (append-nil (head_lines path h.up)))));
+  new_is = to ∙ ap Some (ap (λ (l : List ℕ). old ++ l) (h.new_is ∙ ap asked_text (sym (append-nil (head_lines path h.up)))));
 }
 
 -- a text, and more
-joined_text : (old : List ℕ) (xs ys : List Asked) → (old ++ text_of xs) ++ text_of ys ≡ old ++ text_of (xs ++ ys)
-joined_text old xs ys = append_assoc old (text_of xs) (text_of ys) ∙ ap (λ (l : List ℕ). old ++ l) (sym (text_of-append xs ys))
+joined_text : (old : List ℕ) (xs ys : List Asked) → (old ++ asked_text xs) ++ asked_text ys ≡ old ++ asked_text (xs ++ ys)
+joined_text old xs ys = append_assoc old (asked_text xs) (asked_text ys) ∙ ap (λ (l : List ℕ). old ++ l) (sym (text_of-append xs ys))
 
 pub sofar-more : (path all old : List ℕ) (i at n : ℕ) (left new left' new' : Option (List ℕ)) (s : Sofar path all old i at left new)
-    → Carries path i at n (passage s.rest (old ++ text_of (head_lines path s.up ++ carried writes path 0 0 s.pieces)) left' new') → Sofar path all old (i + 1) (at + n) left' new'
+    → Carries path i at n (passage s.rest (old ++ asked_text (head_lines path s.up ++ carried writes path 0 0 s.pieces)) left' new')
+    → Sofar path all old (i + 1) (at + n) left' new'
 sofar-more path all old i at n left new left' new' s c =
     let head = head_lines path s.up in
     let before = carried writes path 0 0 s.pieces in
@@ -55,7 +82,7 @@ sofar-more path all old i at n left new left' new' s c =
       count = omega (arith, length-append s.pieces (c.piece ∷ []), s.count);
       size = omega (arith, total-push (λ (piece : List ℕ). length piece) s.pieces c.piece, s.size, c.count);
       new_is = c.new_is ∙ ap Some (joined_text old (head ++ before) more
-          ∙ ap (λ (xs : List Asked). old ++ text_of xs) (append_assoc head before more ∙ ap (λ (xs : List Asked). head ++ xs) (sym push)));
+          ∙ ap (λ (xs : List Asked). old ++ asked_text xs) (append_assoc head before more ∙ ap (λ (xs : List Asked). head ++ xs) (sym push)));
     }
 
 piece-asks : (piece : List ℕ) → IsPiece piece → Asks (write_line piece)
@@ -68,8 +95,8 @@ head-asks path up is way =
     (All-cons Asks (create_line path) (open_line path ∷ []) (create-asks path is) (All-cons Asks (open_line path) [] (open-asks path is) (All-nil Asks))))
 
 pub sofar-end : (path all old : List ℕ) (i at : ℕ) (left new left' new' then : Option (List ℕ)) (s : Sofar path all old i at left new) → at ≤ MOST_BYTES
-    → CarriesEnd (passage s.rest (old ++ text_of (head_lines path s.up ++ carried writes path 0 0 s.pieces)) left' new')
-    → then ≡ Some ((old ++ text_of (head_lines path s.up ++ carried writes path 0 0 s.pieces)) ++ text_of (try_line ∷ []))
+    → CarriesEnd (passage s.rest (old ++ asked_text (head_lines path s.up ++ carried writes path 0 0 s.pieces)) left' new')
+    → then ≡ Some ((old ++ asked_text (head_lines path s.up ++ carried writes path 0 0 s.pieces)) ++ asked_text (try_line ∷ []))
     → Puts path all old then
 sofar-end path all old i at left new left' new' then s fits c last =
     let head = head_lines path s.up in
@@ -82,19 +109,22 @@ sofar-end path all old i at left new left' new' then s fits c last =
       way = s.way;
       bytes = sym (s.bytes ∙ ap (λ (l : List ℕ). joined s.pieces ++ l) c.rest_is ∙ append-nil (joined s.pieces));
       sized = s.sized;
-      new_is = last ∙ ap Some (joined_text old (head ++ before) (try_line ∷ []) ∙ ap (λ (xs : List Asked). old ++ text_of xs) (append_assoc head before (try_line ∷ [])));
+      new_is = last ∙ ap Some (joined_text old (head ++ before) (try_line ∷ [])
+          ∙ ap (λ (xs : List Asked). old ++ asked_text xs) (append_assoc head before (try_line ∷ [])));
       asks = All-append Asks head (before ++ try_line ∷ []) (head-asks path s.up is s.way)
-          (All-append Asks before (try_line ∷ []) (carried-asks writes path 0 0 s.pieces try-asks is (omega (arith, s.size)) (All-weaker IsPiece P piece-asks s.pieces s.sized))
+          (All-append Asks before (try_line ∷ [])
+          (carried-asks writes path 0 0 s.pieces try-asks is (omega (arith, s.size)) (All-weaker IsPiece P piece-asks s.pieces s.sized))
           (All-cons Asks try_line [] try-asks (All-nil Asks)));
     }
 
-pub sofar-too_long : (path all old : List ℕ) (i at : ℕ) (left new : Option (List ℕ)) (s : Sofar path all old i at left new) → MOST_BYTES < at + length s.rest → MOST_BYTES < length all
+pub sofar-too_long : (path all old : List ℕ) (i at : ℕ) (left new : Option (List ℕ)) (s : Sofar path all old i at left new) → MOST_BYTES < at + length s.rest
+    → MOST_BYTES < length all
 sofar-too_long path all old i at left new s h =
     omega (arith, ap length s.bytes, length-append (joined s.pieces) s.rest, joined-size s.pieces, s.size)
 
 pub carries-one : (path : List ℕ) (i at n : ℕ) (rest old out piece text : List ℕ) (left new : Option (List ℕ)) → n ≤ length rest → take n out ≡ take n rest
     → left ≡ Some (drop n rest) → piece ≡ take n out → 1 ≤ n → n ≤ MAX_WRITTEN → IsBytes piece
-    → text ≡ text_of (turn try_line path i at ++ write_line piece ∷ []) → new ≡ Some (old ++ text) → Carries path i at n (passage rest old left new)
+    → text ≡ asked_text (turn try_line path i at ++ write_line piece ∷ []) → new ≡ Some (old ++ text) → Carries path i at n (passage rest old left new)
 carries-one path i at n rest old out piece text left new short same from is some most bytes lines to =
     let p : piece ≡ take n rest = is ∙ same in
     let size : length piece ≡ n = ap length p ∙ length-take-le n rest short in
@@ -108,14 +138,17 @@ carries-one path i at n rest old out piece text left new short same from is some
       new_is = to ∙ ap Some (ap (λ (l : List ℕ). old ++ l) lines);
     }
 
-pub carries-some : (path : List ℕ) (i at n : ℕ) (rest old : List ℕ) (left new : Option (List ℕ)) (came : Option ℕ) → came ≡ Some n → CarriesTo path i at (passage rest old left new) (Ok came)
+pub carries-some : (path : List ℕ) (i at n : ℕ) (rest old : List ℕ) (left new : Option (List ℕ)) (came : Option ℕ) → came ≡ Some n
+    → CarriesTo path i at (passage rest old left new) (Ok came)
     → Carries path i at n (passage rest old left new)
 carries-some path i at n rest old left new came e c = let P : Option ℕ → Type 0 = λ o. CarriesTo path i at (passage rest old left new) (Ok o) in subst P e c
 
-pub carries-none : (path : List ℕ) (i at : ℕ) (rest old : List ℕ) (left new : Option (List ℕ)) (came : Option ℕ) → came ≡ None → CarriesTo path i at (passage rest old left new) (Ok came)
+pub carries-none : (path : List ℕ) (i at : ℕ) (rest old : List ℕ) (left new : Option (List ℕ)) (came : Option ℕ) → came ≡ None
+    → CarriesTo path i at (passage rest old left new) (Ok came)
     → CarriesEnd (passage rest old left new)
 carries-none path i at rest old left new came e c = let P : Option ℕ → Type 0 = λ o. CarriesTo path i at (passage rest old left new) (Ok o) in subst P e c
 
 pub carries-too_long : (path : List ℕ) (i at : ℕ) (rest old : List ℕ) (left new : Option (List ℕ)) (result : Result (Option ℕ) Stop) → result ≡ Err stop.TooLong
     → CarriesTo path i at (passage rest old left new) result → MOST_BYTES < at + length rest
-carries-too_long path i at rest old left new result e c = let P : Result (Option ℕ) Stop → Type 0 = λ r. CarriesTo path i at (passage rest old left new) r in subst P e c
+carries-too_long path i at rest old left new result e c =
+    let P : Result (Option ℕ) Stop → Type 0 = λ r. CarriesTo path i at (passage rest old left new) r in subst P e c

@@ -1,5 +1,38 @@
 -- The lines that put a file store its bytes at the path.
-use Rattle.std.proofs.Common.{◌≡◌, ◌≢◌, ℕ, ◌+◌, ◌-◌, ◌<◌, ◌≤◌, Bool, true, false, cond, List, [], ◌∷◌, ◌++◌, length, drop, replicate, Option, Some, None, Result, Err, refl, sym, ap, ◌∙◌, arith, append_assoc, subst, inl, inr}
+use Rattle.std.proofs.Common.{
+  ◌≡◌,
+  ◌≢◌,
+  ℕ,
+  ◌+◌,
+  ◌-◌,
+  ◌<◌,
+  ◌≤◌,
+  Bool,
+  true,
+  false,
+  cond,
+  List,
+  [],
+  ◌∷◌,
+  ◌++◌,
+  length,
+  drop,
+  replicate,
+  Option,
+  Some,
+  None,
+  Result,
+  Err,
+  refl,
+  sym,
+  ap,
+  ◌∙◌,
+  arith,
+  append_assoc,
+  subst,
+  inl,
+  inr,
+}
 use Rattle.std.specs.Prelude.{All}
 use Rattle.std.specs.List.{join_with_byte}
 use Rattle.std.specs.FinMap.{get, insert, get-empty}
@@ -12,19 +45,20 @@ use Rattle.wtf_path.proofs.Refused.{parts_of-join}
 use Rattle.wtf_model.specs.declared.answer.Word.{Word}
 use Rattle.wtf_model.specs.declared.answer.Word.TheVariants.{Exists, NoParent}
 use Rattle.wtf_model.specs.declared.op.Op.TheVariants as op
-use Rattle.wtf_model.specs.Tree.{TreeNode, Tree, Dir, File, root, ◌>>=◌, is_free, is_parent, target_in}
+use Rattle.wtf_model.specs.Tree.{only_path, TreeNode, Tree, Dir, File, root, ◌>>=◌, is_free, is_parent, target_in, paths_at}
 use Rattle.wtf_model.specs.Session.{Session, Handle}
-use Rattle.wtf_model.specs.Done.{Done, bytes_at, bytes_or_none, put_node, add_file}
+use Rattle.wtf_model.specs.Done.{Done, bytes_at, bytes_or_none, refiled, put_node, add_file}
 use Rattle.wtf_model.specs.ByteCalls.{written}
 use Rattle.wtf_model.specs.Call.{call}
 use Rattle.wtf_model.proofs.TreeLaws.{same_or_other}
 use Rattle.wtf_model.proofs.CallLaws.{target-free, source-file, call-create, call-open, call-write}
 use Rattle.wtf_model.proofs.NameLaws.{mkdir-made, mkdir-refused}
 use Rattle.wtf_model.proofs.Laws.{get-handle_same, get-node_same, get-node_other}
+use Rattle.wtf_model.proofs.PathLaws.{refiled-alone}
 use Rattle.wtf_carry.specs.Asked.{Asked, turn, total, carried, writes, begin_line, try_line, mkdir_line, create_line, open_line, seek_line, write_line}
 use Rattle.wtf_carry.specs.Ways.{IsWayUp, mkdirs}
 use Rattle.wtf_carry.specs.Puts.{IsPiece, joined, head_lines, put_lines}
-use Rattle.wtf_carry.specs.Runs.{Stand, after_line, after_lines, IsPut, IsWay, PutIsStored, PutIsGot}
+use Rattle.wtf_carry.specs.Runs.{Stand, after_line, after_lines, IsFilePut, IsWay, PutIsStored, PutIsGot}
 use Rattle.wtf_carry.proofs.Carried.{joined-size}
 use Rattle.wtf_carry.proofs.RunLaws.{ready-start, ready-seek, read-is-got}
 
@@ -48,10 +82,17 @@ some-bytes : (n : List ℕ) → IsName n → 0 < length n
 some-bytes [] is = absurd (is.some refl)
 some-bytes (b ∷ bs) is = omega arith
 
-shorter-names : (n : List ℕ) (ns : List (List ℕ)) → All IsName (n ∷ ns) → length (join_with_byte 47 (without_last (n ∷ ns))) < length (join_with_byte 47 (n ∷ ns))
+shorter-names : (n : List ℕ) (ns : List (List ℕ)) → All IsName (n ∷ ns)
+    → length (join_with_byte 47 (without_last (n ∷ ns))) < length (join_with_byte 47 (n ∷ ns))
 shorter-names n [] each = some-bytes n (All-head IsName n [] each)
 shorter-names n (m ∷ ns) each =
-    omega (arith, length-append n (47 ∷ join_with_byte 47 (m ∷ ns)), joined-more n (without_last (m ∷ ns)), shorter-names m ns (All-tail IsName n (m ∷ ns) each))
+    omega (
+      arith,
+      length-append n (47 ∷ join_with_byte 47 (m ∷ ns)),
+      joined-more n (without_last (m ∷ ns)),
+      shorter-names m ns
+          (All-tail IsName n (m ∷ ns) each),
+    )
 
 shorter-parent : (ns : List (List ℕ)) (d : List ℕ) → All IsName ns → parent_with ns ≡ Some d → length d < length (spelling ns)
 shorter-parent [] d each e = absurd cc
@@ -79,7 +120,7 @@ record IsRefused (r : Result (Unit {0}) Word) : Type 0 where
 refused-in : (x : Option TreeNode) → IsRefused (is_parent x >>= λ _. is_free (Some Dir))
 refused-in None = record { word = NoParent; is = refl }
 refused-in (Some Dir) = record { word = Exists; is = refl }
-refused-in (Some (File bytes)) = record { word = NoParent; is = refl }
+refused-in (Some (File paths bytes)) = record { word = NoParent; is = refl }
 
 refused-at : (t : Tree) (d : List ℕ) (o : Option (List ℕ)) → get t d ≡ Some Dir → IsRefused (target_in t d o)
 refused-at t d None there = record { word = Exists; is = refl }
@@ -107,7 +148,8 @@ some-none : (x : List ℕ) (o : Option (List ℕ)) → o ≡ Some x → o ≡ No
 some-none x o e f = let k : Some x ≡ None = sym e ∙ f in absurd cc
 
 -- a directory is made where there is none
-made-new : (cap : ℕ) (d : List ℕ) (ds : List (List ℕ)) (path : List ℕ) (old mid : Session) → parent_of path ≡ Some d → Made d ds old mid → (dir : List ℕ) → parent_of d ≡ Some dir
+made-new : (cap : ℕ) (d : List ℕ) (ds : List (List ℕ)) (path : List ℕ) (old mid : Session) → parent_of path ≡ Some d → Made d ds old mid → (dir : List ℕ)
+    → parent_of d ≡ Some dir
     → get mid.tree d ≡ None → Made path (d ∷ ds) old (call cap mid (op.Mkdir d)).session
 made-new cap d ds path old mid up m dir e none =
     let made = mkdir-made cap mid d (target-free mid.tree d dir e (m.parent dir e) none) in
@@ -181,7 +223,7 @@ made-ways cap w path (d ∷ ds) is not way top ways =
 
 -- so many bytes of the file are written, and all else is as in this tree
 record Written (path file : List ℕ) (tree : Tree) (w : Stand) : Type 0 where
-  file_is : get w.seen.tree path ≡ Some (File file)
+  file_is : get w.seen.tree path ≡ Some (File (only_path path) file)
   handle : get w.seen.handles 0 ≡ Some (record { path = path; off = length file })
   others : (q : List ℕ) → q ≢ path → get w.seen.tree q ≡ get tree q
 
@@ -201,15 +243,19 @@ written-more : (cap : ℕ) (w : Stand) (path file piece : List ℕ) (tree : Tree
 written-more cap w path file [] tree r is fits = absurd (omega (arith, is.0))
 written-more cap w path file (b ∷ bs) tree r is fits =
     let h : Handle = record { path = path; off = length file } in
-    let was : bytes_at w.seen.tree path ≡ file = ap bytes_or_none (source-file w.seen.tree path file r.file_is) in
+    let was : bytes_at w.seen.tree path ≡ file = ap bytes_or_none (source-file w.seen.tree path (only_path path) file r.file_is) in
     let now = written (bytes_at w.seen.tree path) (length file) (b ∷ bs) in
     let e = call-write cap w.seen 0 b bs h r.handle fits in
+    let put : refiled w.seen.tree (paths_at w.seen.tree path) (paths_at w.seen.tree path) now ≡ insert w.seen.tree path (File (only_path path) now) =
+    refiled-alone w.seen.tree path file now r.file_is in
     let is_now : now ≡ file ++ b ∷ bs = ap (λ (l : List ℕ). written l (length file) (b ∷ bs)) was ∙ written-end file (b ∷ bs) in
     record {
-      file_is = ap (λ (d : Done). get d.session.tree path) e ∙ get-node_same w.seen.tree path (File now) ∙ ap (λ (l : List ℕ). Some (File l)) is_now;
+      file_is = ap (λ (d : Done). get d.session.tree path) e ∙ ap (λ (t : Tree). get t path) put
+          ∙ get-node_same w.seen.tree path (File (only_path path) now) ∙ ap (λ (l : List ℕ). Some (File (only_path path) l)) is_now;
       handle = ap (λ (d : Done). get d.session.handles 0) e ∙ get-handle_same w.seen.handles 0 (record { path = path; off = length file + length (b ∷ bs) })
           ∙ ap (λ (n : ℕ). Some (record { path = path; off = n })) (sym (length-append file (b ∷ bs)));
-      others = λ q other. ap (λ (d : Done). get d.session.tree q) e ∙ get-node_other w.seen.tree path (File now) q other ∙ r.others q other;
+      others = λ q other. ap (λ (d : Done). get d.session.tree q) e ∙ ap (λ (t : Tree). get t q) put
+          ∙ get-node_other w.seen.tree path (File (only_path path) now) q other ∙ r.others q other;
     }
 
 -- a transaction ends, and the next one goes on
@@ -219,21 +265,23 @@ written-turn false cap at w path file tree r e fits = r
 written-turn true cap at w path file tree r e fits =
     let w1 = after_line cap w try_line.event in
     let w2 = after_line cap (after_line cap w1 begin_line.event) (open_line path).event in
-    let s = ready-seek cap at 0 w2 path file (ready-start cap w1 path file r.file_is) fits in
+    let s = ready-seek cap at 0 w2 path file (ready-start cap w1 path file (only_path path, r.file_is)) fits in
     record {
-      file_is = ap (λ (t : Tree). get t path) s.same ∙ s.stored;
+      file_is = ap (λ (t : Tree). get t path) s.same ∙ r.file_is;
       handle = s.handle ∙ ap (λ (n : ℕ). Some (record { path = path; off = n })) e;
       others = λ q other. ap (λ (t : Tree). get t q) s.same ∙ r.others q other;
     }
 
 written-carried : (cap i at : ℕ) (pieces : List (List ℕ)) (w : Stand) (path file : List ℕ) (tree : Tree) → Written path file tree w → at ≡ length file
-    → length file + total (λ piece. length piece) pieces ≤ cap → All IsPiece pieces → Written path (file ++ joined pieces) tree (after_lines cap w (carried writes path i at pieces))
+    → length file + total (λ piece. length piece) pieces ≤ cap → All IsPiece pieces
+    → Written path (file ++ joined pieces) tree (after_lines cap w (carried writes path i at pieces))
 written-carried cap i at [] w path file tree r e fits each = let P : List ℕ → Type 0 = λ l. Written path l tree w in subst P (sym (append-nil file)) r
 written-carried cap i at (piece ∷ pieces) w path file tree r e fits each =
     let w1 = after_lines cap w (turn try_line path i at) in
     let w2 = after_line cap w1 (write_line piece).event in
     let more = carried writes path (i + 1) (at + length piece) pieces in
-    let one = written-more cap w1 path file piece tree (written-turn _ cap at w path file tree r e (omega (arith, e, fits))) (All-head IsPiece piece pieces each) (omega (arith, fits)) in
+    let one = written-more cap w1 path file piece tree (written-turn _ cap at w path file tree r e (omega (arith, e, fits)))
+    (All-head IsPiece piece pieces each) (omega (arith, fits)) in
     let all = written-carried cap (i + 1) (at + length piece) pieces w2 path (file ++ piece) tree one (omega (arith, e, length-append file piece))
     (omega (arith, fits, length-append file piece)) (All-tail IsPiece piece pieces each) in
     let P : List ℕ → Type 0 = λ l. Written path l tree (after_lines cap w2 more) in
@@ -245,14 +293,15 @@ created : (cap : ℕ) (w : Stand) (path : List ℕ) (dir : List ℕ) → parent_
     → get w.seen.handles 0 ≡ None → Written path [] w.seen.tree (after_lines cap w (create_line path ∷ open_line path ∷ []))
 created cap w path dir up there none unused =
     let s = w.seen in
-    let made : (call cap s (op.Create path)).session ≡ add_file s path [] = ap (λ (d : Done). d.session) (call-create cap s path (target-free s.tree path dir up there none)) in
+    let made : (call cap s (op.Create path)).session ≡ add_file s path [] =
+    ap (λ (d : Done). d.session) (call-create cap s path (target-free s.tree path dir up there none)) in
     let P : Session → Type 0 = λ x. Written path [] s.tree (record { now = w.now; seen = (call cap x (op.Open 0 path)).session }) in
-    let is : get (add_file s path []).tree path ≡ Some (File []) = get-node_same s.tree path (File []) in
-    let e = call-open cap (add_file s path []) 0 path [] unused (source-file (add_file s path []).tree path [] is) in
+    let is : get (add_file s path []).tree path ≡ Some (File (only_path path) []) = get-node_same s.tree path (File (only_path path) []) in
+    let e = call-open cap (add_file s path []) 0 path [] unused (source-file (add_file s path []).tree path (only_path path) [] is) in
     subst P (sym made) (record {
       file_is = ap (λ (d : Done). get d.session.tree path) e ∙ is;
       handle = ap (λ (d : Done). get d.session.handles 0) e ∙ get-handle_same s.handles 0 (record { path = path; off = 0 });
-      others = λ q other. ap (λ (d : Done). get d.session.tree q) e ∙ get-node_other s.tree path (File []) q other;
+      others = λ q other. ap (λ (d : Done). get d.session.tree q) e ∙ get-node_other s.tree path (File (only_path path) []) q other;
     })
 
 -- ---- all lines
@@ -261,7 +310,8 @@ none-there : (t : Tree) (path : List ℕ) → get t root ≡ Some Dir → get t 
 none-there t path top none = λ e. let k : Some Dir ≡ None = sym top ∙ ap (λ (q : List ℕ). get t q) (sym e) ∙ none in absurd cc
 
 head-written : (cap : ℕ) (w : Stand) (path : List ℕ) (up : List (List ℕ)) → IsPath path → IsWayUp path up → get w.now root ≡ Some Dir → get w.now path ≡ None
-    → All (IsWay w.now) up → (tree : Tree) × Written path [] tree (after_lines cap w (head_lines path up)) × ((q : List ℕ) → All (λ d. q ≢ d) up → get tree q ≡ get w.now q)
+    → All (IsWay w.now) up → (tree : Tree) × Written path [] tree (after_lines cap w (head_lines path up))
+    × ((q : List ℕ) → All (λ d. q ≢ d) up → get tree q ≡ get w.now q)
 head-written cap w path up is way top none ways =
     let w1 = after_line cap w begin_line.event in
     let w2 = after_lines cap w1 (mkdirs up) in
@@ -282,13 +332,14 @@ put-is-stored = λ cap w path file old new p is top none ways fits.
     let lines = carried writes path 0 0 p.pieces in
     let size : total (λ piece. length piece) p.pieces ≡ length file = sym (joined-size p.pieces) ∙ ap length p.bytes in
     let all = written-carried cap 0 0 p.pieces w1 path [] head.0 head.1 refl (omega (arith, size, fits)) p.sized in
-    let P : Stand → Type 0 = λ v. IsPut path file p.up w.now v.now in
+    let P : Stand → Type 0 = λ v. IsFilePut path file p.up w.now v.now in
     subst P (sym (after_lines-append cap w (head_lines path p.up) (lines ++ try_line ∷ []) ∙ after_lines-append cap w1 lines (try_line ∷ []))) (record {
-      file_is = all.file_is ∙ ap (λ (l : List ℕ). Some (File l)) p.bytes;
+      file_is = all.file_is ∙ ap (λ (l : List ℕ). Some (File (only_path path) l)) p.bytes;
       others = λ q other apart. all.others q other ∙ head.2 q apart;
     })
 
 pub put-is-got : PutIsGot
 put-is-got = λ cap w path file old before first new now p r answers is top none ways fits bytes begins short are.
     let put = put-is-stored cap w path file old new p is top none ways fits in
-    read-is-got cap (after_lines cap w (put_lines path p.up p.pieces)) path file before first now r answers put.file_is bytes fits begins short are
+    read-is-got cap (after_lines cap w (put_lines path p.up p.pieces)) path file before first now r answers
+    (only_path path, put.file_is) bytes fits begins short are

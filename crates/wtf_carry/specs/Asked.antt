@@ -22,8 +22,8 @@ abbrev pub Asks : Asked → Type 0
 Asks a = event_of a.line ≡ Ok a.event
 
 -- lines as they stand in a script
-abbrev pub text_of : List Asked → List ℕ
-text_of asked = flat_map (λ a. a.line ++ line_feed ∷ []) asked
+abbrev pub asked_text : List Asked → List ℕ
+asked_text asked = flat_map (λ a. a.line ++ line_feed ∷ []) asked
 
 abbrev pub line_with : List ℕ → List ℕ → Verb → Asked
 line_with front back v = record { line = front ++ back; event = event.Client 0 v }

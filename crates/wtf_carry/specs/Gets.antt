@@ -1,5 +1,29 @@
 -- The answers to the lines that read a file, and the bytes in them.
-use Rattle.std.specs.Prelude.{◌≡◌, ◌≢◌, ℕ, ◌+◌, ◌<◌, ◌≤◌, Bool, true, List, [], ◌∷◌, ◌++◌, length, take, codes, bytes_eq, map, Option, Some, None, Result, Ok, Err}
+use Rattle.std.specs.Prelude.{
+  ◌≡◌,
+  ◌≢◌,
+  ℕ,
+  ◌+◌,
+  ◌<◌,
+  ◌≤◌,
+  Bool,
+  true,
+  List,
+  [],
+  ◌∷◌,
+  ◌++◌,
+  length,
+  take,
+  codes,
+  bytes_eq,
+  map,
+  Option,
+  Some,
+  None,
+  Result,
+  Ok,
+  Err,
+}
 use Rattle.std.specs.List.{flat_map, All}
 use Rattle.wtf_model.specs.declared.answer.Answer.{Answer}
 use Rattle.wtf_model.specs.declared.answer.Answer.TheVariants as answer
@@ -12,12 +36,12 @@ use Rattle.wtf_print.specs.Texts.{text_of}
 use Rattle.wtf_print.specs.Forms.{IsWritable}
 
 -- the bytes that an answer shows
-abbrev pub shown : Answer → List ℕ
-shown (answer.Shown bytes) = bytes
-shown a = []
+abbrev pub bytes_shown : Answer → List ℕ
+bytes_shown (answer.Shown bytes) = bytes
+bytes_shown a = []
 
 abbrev pub all_shown : List Answer → List ℕ
-all_shown answers = flat_map shown answers
+all_shown answers = flat_map bytes_shown answers
 
 -- the answers that the lines which read a file have where nothing is wrong: `begun`, `ok` and `data`
 abbrev pub IsGood : Answer → Type 0
@@ -30,13 +54,13 @@ IsGood a = ⊥
 abbrev pub is_first : List ℕ → Bool
 is_first line = bytes_eq (take 12 line) (codes "wtf servers ")
 
-abbrev pub IsFirst : List ℕ → Type 0
-IsFirst line = is_first line ≡ true
+abbrev pub IsSettingsLine : List ℕ → Type 0
+IsSettingsLine line = is_first line ≡ true
 
 -- Lines, but for the first one, are the texts of answers in form
 pub record AreAnswers (lines : List (List ℕ)) (answers : List Answer) : Type 0 where
   pub first : List ℕ
-  pub begins : IsFirst first
+  pub begins : IsSettingsLine first
   pub lines_are : lines ≡ first ∷ map text_of answers
   pub writable : All IsWritable answers
 
@@ -49,12 +73,12 @@ pub record Gets (len : ℕ) (lines : List (List ℕ)) (old : List ℕ) (new : Op
   pub new_is : new ≡ Some (old ++ all_shown answers)
 
 -- a line that can be read
-abbrev pub IsShort : List ℕ → Type 0
-IsShort line = length line ≤ LINE_BYTES
+abbrev pub IsShortLine : List ℕ → Type 0
+IsShortLine line = length line ≤ LINE_BYTES
 
 -- Lines that can be read are not the answers to the reads of a file of this length
 abbrev pub NoneGets : ℕ → List (List ℕ) → Type 0
-NoneGets len lines = (answers : List Answer) → AreAnswers lines answers → All IsGood answers → All IsShort lines → length (all_shown answers) ≢ len
+NoneGets len lines = (answers : List Answer) → AreAnswers lines answers → All IsGood answers → All IsShortLine lines → length (all_shown answers) ≢ len
 
 -- where a sink tells what it has, these bytes were added
 abbrev pub Adds : List ℕ → Option (List ℕ) → Option (List ℕ) → Type 0
@@ -66,23 +90,23 @@ pub record Takes (line : List ℕ) (n : ℕ) (before now : Option (List ℕ)) : 
   pub is : text_of answer ≡ line
   pub writable : IsWritable answer
   pub good : IsGood answer
-  pub size : n ≡ length (shown answer)
-  pub adds : Adds (shown answer) before now
+  pub size : n ≡ length (bytes_shown answer)
+  pub adds : Adds (bytes_shown answer) before now
 
 -- A line is that of no such answer, or it shows more than is left
 abbrev pub NoneTakes : List ℕ → ℕ → Type 0
-NoneTakes line left = (a : Answer) → text_of a ≡ line → IsWritable a → IsGood a → left < length (shown a)
+NoneTakes line left = (a : Answer) → text_of a ≡ line → IsWritable a → IsGood a → left < length (bytes_shown a)
 
 -- once the end was seen nothing is left
-abbrev pub IsOver : Held → List ℕ → Type 0
-IsOver held rest = held.ended ≡ true → held.bytes ++ rest ≡ []
+abbrev pub NoneBehindEnd : Held → List ℕ → Type 0
+NoneBehindEnd held rest = held.ended ≡ true → held.bytes ++ rest ≡ []
 
 -- a line was read of what was held and left
 pub record ComesLine (line : List ℕ) (old : Held) (rest : List ℕ) (new : Held) (left : Option (List ℕ)) : Type 0 where
   pub then : List ℕ
   pub left_is : left ≡ Some then
   pub lines_are : lines_of (old.bytes ++ rest) ≡ line ∷ lines_of (new.bytes ++ then)
-  pub over : IsOver new then
+  pub over : NoneBehindEnd new then
   pub count : length then + new.count ≡ length rest + old.count
 
 -- what came of asking for a line
@@ -98,10 +122,10 @@ pub record GetSofar (len left : ℕ) (script : List ℕ) (held : Held) (from bef
   pub first : List ℕ
   pub answers : List Answer
   pub rest : List ℕ
-  pub begins : IsFirst first
+  pub begins : IsSettingsLine first
   pub from_is : from ≡ Some rest
   pub lines_are : lines_of script ≡ first ∷ (map text_of answers ++ lines_of (held.bytes ++ rest))
-  pub over : IsOver held rest
+  pub over : NoneBehindEnd held rest
   pub count : length rest + held.count ≡ length script
   pub writable : All IsWritable answers
   pub good : All IsGood answers

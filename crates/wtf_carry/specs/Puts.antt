@@ -7,7 +7,7 @@ use Rattle.wtf_model.specs.declared.limits.TheConstants.{MAX_WRITTEN}
 use Rattle.wtf_carry.specs.declared.stop.Stop.{Stop}
 use Rattle.wtf_carry.specs.declared.stop.Stop.TheVariants as stop
 use Rattle.wtf_carry.specs.declared.TheConstants.{MOST_BYTES}
-use Rattle.wtf_carry.specs.Asked.{Asked, Asks, text_of, begin_line, try_line, create_line, open_line, write_line, turn, total, carried, writes}
+use Rattle.wtf_carry.specs.Asked.{Asked, Asks, asked_text, begin_line, try_line, create_line, open_line, write_line, turn, total, carried, writes}
 use Rattle.wtf_carry.specs.Ways.{IsWayUp, mkdirs}
 
 -- the lines before the first piece: the directories on the way are made, from the root down, and the file is created
@@ -35,7 +35,7 @@ pub record Puts (path all old : List ℕ) (new : Option (List ℕ)) : Type 0 whe
   -- the writes, laid one after the other, are the bytes
   pub bytes : joined pieces ≡ all
   pub sized : All IsPiece pieces
-  pub new_is : new ≡ Some (old ++ text_of (put_lines path up pieces))
+  pub new_is : new ≡ Some (old ++ asked_text (put_lines path up pieces))
   -- each line is taken as the event that it is to ask for
   pub asks : All Asks (put_lines path up pieces)
 
@@ -44,7 +44,7 @@ pub record HasHead (path old new : List ℕ) : Type 0 where
   pub is_path : IsPath path
   pub up : List (List ℕ)
   pub way : IsWayUp path up
-  pub new_is : new ≡ old ++ text_of (head_lines path up)
+  pub new_is : new ≡ old ++ asked_text (head_lines path up)
 
 -- what the source had and has left, and what the sink had and has taken
 pub record Passage : Type 0 where
@@ -64,7 +64,7 @@ pub record Carries (path : List ℕ) (i at n : ℕ) (p : Passage) : Type 0 where
   pub left_is : p.left ≡ Some then
   pub count : length piece ≡ n
   pub is : IsPiece piece
-  pub new_is : p.new ≡ Some (p.old ++ text_of (turn try_line path i at ++ write_line piece ∷ []))
+  pub new_is : p.new ≡ Some (p.old ++ asked_text (turn try_line path i at ++ write_line piece ∷ []))
 
 -- nothing is left
 pub record CarriesEnd (p : Passage) : Type 0 where
@@ -90,4 +90,4 @@ pub record Sofar (path all old : List ℕ) (i at : ℕ) (left new : Option (List
   pub sized : All IsPiece pieces
   pub count : i ≡ length pieces
   pub size : at ≡ total (λ piece. length piece) pieces
-  pub new_is : new ≡ Some (old ++ text_of (head_lines path up ++ carried writes path 0 0 pieces))
+  pub new_is : new ≡ Some (old ++ asked_text (head_lines path up ++ carried writes path 0 0 pieces))

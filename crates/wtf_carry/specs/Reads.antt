@@ -2,7 +2,7 @@
 use Rattle.std.specs.Prelude.{◌≡◌, ℕ, ◌≤◌, List, [], ◌∷◌, ◌++◌, length, Option, Some}
 use Rattle.std.specs.List.{All}
 use Rattle.wtf_model.specs.declared.limits.TheConstants.{MAX_SHOWN}
-use Rattle.wtf_carry.specs.Asked.{Asked, Asks, text_of, begin_line, abort_line, open_line, total, carried, shows}
+use Rattle.wtf_carry.specs.Asked.{Asked, Asks, asked_text, begin_line, abort_line, open_line, total, carried, shows}
 
 -- the lines that read pieces of these lengths, one behind the other
 abbrev pub read_lines : List ℕ → List ℕ → List Asked
@@ -13,11 +13,11 @@ abbrev pub IsShare : ℕ → Type 0
 IsShare n = (1 ≤ n) × (n ≤ MAX_SHOWN)
 
 -- the lines that read a file of `len` bytes were written
-pub record Reads (path : List ℕ) (len : ℕ) (old : List ℕ) (new : Option (List ℕ)) : Type 0 where
+pub record ReadsWholeFile (path : List ℕ) (len : ℕ) (old : List ℕ) (new : Option (List ℕ)) : Type 0 where
   pub sizes : List ℕ
   pub size : total (λ n. n) sizes ≡ len
   pub each : All IsShare sizes
-  pub new_is : new ≡ Some (old ++ text_of (read_lines path sizes))
+  pub new_is : new ≡ Some (old ++ asked_text (read_lines path sizes))
   pub asks : All Asks (read_lines path sizes)
 
 -- so far the lines of i reads, of `at` bytes together, were written
@@ -26,4 +26,4 @@ pub record ReadSofar (path old : List ℕ) (i at : ℕ) (new : Option (List ℕ)
   pub each : All IsShare sizes
   pub count : i ≡ length sizes
   pub size : at ≡ total (λ n. n) sizes
-  pub new_is : new ≡ Some (old ++ text_of (begin_line ∷ open_line path ∷ carried shows path 0 0 sizes))
+  pub new_is : new ≡ Some (old ++ asked_text (begin_line ∷ open_line path ∷ carried shows path 0 0 sizes))

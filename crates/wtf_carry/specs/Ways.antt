@@ -2,7 +2,7 @@
 use Rattle.std.specs.Prelude.{◌≡◌, ◌≢◌, ◌⊎◌, ℕ, List, [], ◌∷◌, ◌++◌, codes, Some, None}
 use Rattle.wtf_path.specs.Grammar.{IsPath}
 use Rattle.wtf_path.specs.Parts.{parent_of}
-use Rattle.wtf_carry.specs.Asked.{Asked, mkdir_line, text_of}
+use Rattle.wtf_carry.specs.Asked.{Asked, mkdir_line, asked_text}
 
 -- the directories that a path stands in, from the innermost one out, but not the root
 abbrev pub IsWayUp : List ℕ → List (List ℕ) → Type 0
@@ -18,4 +18,4 @@ mkdirs (d ∷ ds) = mkdirs ds ++ mkdir_line d ∷ []
 pub record HasWays (path old new : List ℕ) : Type 0 where
   pub up : List (List ℕ)
   pub is : IsWayUp path up
-  pub new_is : new ≡ old ++ text_of (mkdirs up)
+  pub new_is : new ≡ old ++ asked_text (mkdirs up)

@@ -5,7 +5,7 @@ ghost use Rattle.wtf_dev.specs.Counts.{Rose};
 ghost use Rattle.wtf_script.specs.ScriptLines.{lines_of};
 ghost use Rattle.wtf_script.specs.Reading.{work};
 ghost use Rattle.wtf_script.specs.declared.limits.TheConstants.{SCRIPT_BYTES};
-ghost use Rattle.wtf_carry.specs.Gets.{Gets, NoneGets, Takes, NoneTakes, Comes, IsOver, is_first};
+ghost use Rattle.wtf_carry.specs.Gets.{Gets, NoneGets, Takes, NoneTakes, Comes, NoneBehindEnd, is_first};
 
 use crate::Stop;
 use crate::stream::write_all;
@@ -57,7 +57,8 @@ pub fn get<I: Source, O: Sink>(
 
 /// The next line.
 fn next_line<I: Source>(lines: &mut Lines, from: &mut I) -> Result<Option<Bytes>, Stop>
-    ensures came { (rest : List ℕ) → (I.view from.old).rest ≡ Some rest → IsOver lines.old rest →
+    ensures came { (rest : List ℕ) → (I.view from.old).rest ≡ Some rest →
+        NoneBehindEnd lines.old rest →
         Comes lines.old rest lines.new (I.view from.new).rest result }
     ensures progress { (line : List ℕ) → result ≡ Ok (Some line) → work lines.new < work lines.old }
     ensures faults { (I.view from.old).faults ≤ (I.view from.new).faults }

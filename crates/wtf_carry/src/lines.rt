@@ -3,7 +3,7 @@
 ghost use Rattle.std.specs.Prelude.{◌≡◌, ◌++◌, ◌∷◌, [], decimal, OnOk};
 ghost use Rattle.hex.specs.Hex.{encode_lower, IsBytes};
 ghost use Rattle.wtf_script.specs.ScriptLines.{line_feed};
-ghost use Rattle.wtf_carry.specs.Asked.{Asked, begin_line, open_line, seek_line, is_turn, turn, write_line, text_of};
+ghost use Rattle.wtf_carry.specs.Asked.{Asked, begin_line, open_line, seek_line, is_turn, turn, write_line, asked_text};
 ghost use Rattle.wtf_carry.specs.Ways.{HasWays};
 
 use itoa::Buffer;
@@ -80,7 +80,7 @@ pub(crate) fn push_turn(
     at: u64,
 ) -> Result<(), OutOfMemory>
     ensures { OnOk result ((last : Asked) → last.line ≡ end.now → text.new.items ≡
-        text.old.items ++ text_of (turn last path.now i at)) }
+        text.old.items ++ asked_text (turn last path.now i at)) }
 {
     if !is_turn(i) {
         return Ok(());
@@ -91,7 +91,7 @@ pub(crate) fn push_turn(
 /// Appends the lines that end a transaction and begin the next one, at byte `at` of the file.
 fn go_on(text: &mut Vec<u8>, end: &[u8], path: &Path, at: u64) -> Result<(), OutOfMemory>
     ensures { OnOk result ((last : Asked) → last.line ≡ end.now → text.new.items ≡
-        text.old.items ++ text_of (last ∷ begin_line ∷ open_line path.now ∷ seek_line at ∷ [])) }
+        text.old.items ++ asked_text (last ∷ begin_line ∷ open_line path.now ∷ seek_line at ∷ [])) }
 {
     push_line(text, end, b"")?;
     push_line(text, b"c0 begin", b"")?;

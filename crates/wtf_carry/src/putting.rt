@@ -3,7 +3,7 @@
 ghost use Rattle.std.specs.Prelude.{◌≡◌, ◌≢◌, ◌≤◌, ◌<◌, ◌+◌, ◌++◌, ◌∷◌, ℕ, List, [], Some, Err, length, take, OnOk, IfOk, IfSome};
 ghost use Rattle.wtf_dev.specs.Counts.{Rose};
 ghost use Rattle.hex.specs.Hex.{IsBytes};
-ghost use Rattle.wtf_carry.specs.Asked.{text_of, turn, try_line, write_line};
+ghost use Rattle.wtf_carry.specs.Asked.{asked_text, turn, try_line, write_line};
 ghost use Rattle.wtf_carry.specs.Puts.{Puts, HasHead, CarriesTo, passage};
 
 use crate::lines::{push_line, push_turn, push_ways, push_write};
@@ -126,7 +126,7 @@ fn push_piece(
     piece: &[u8],
 ) -> Result<(), OutOfMemory>
     ensures text { OnOk result (text.new.items ≡ text.old.items ++
-        text_of (turn try_line path.now i at ++ write_line piece.now ∷ [])) }
+        asked_text (turn try_line path.now i at ++ write_line piece.now ∷ [])) }
     ensures bytes { OnOk result (IsBytes piece.now) }
 {
     push_turn(text, b"c0 try", path, i, at)?;

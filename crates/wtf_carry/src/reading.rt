@@ -2,8 +2,8 @@
 
 ghost use Rattle.std.specs.Prelude.{◌≡◌, ◌≢◌, ◌≤◌, ◌⊎◌, ◌++◌, ◌∷◌, ℕ, List, [], Some, Err, OnOk, IfErr};
 ghost use Rattle.wtf_dev.specs.Counts.{Rose};
-ghost use Rattle.wtf_carry.specs.Asked.{text_of, turn, abort_line, read_line};
-ghost use Rattle.wtf_carry.specs.Reads.{Reads, IsShare};
+ghost use Rattle.wtf_carry.specs.Asked.{asked_text, turn, abort_line, read_line};
+ghost use Rattle.wtf_carry.specs.Reads.{ReadsWholeFile, IsShare};
 
 use crate::Stop;
 use crate::lines::{push_line, push_number, push_turn};
@@ -19,7 +19,7 @@ use wtf_path::Path;
 pub fn reads<O: Sink>(alloc: Global, path: &Path, len: u64, out: &mut O) -> Result<(), Stop>
     requires { len ≤ MAX_NUMBER }
     ensures reads { OnOk result ((old : List ℕ) → (O.view out.old).taken ≡ Some old →
-        Reads path.now len old (O.view out.new).taken) }
+        ReadsWholeFile path.now len old (O.view out.new).taken) }
     ensures unwritten { result ≡ Err Stop.Unwritten →
         Rose (O.view out.old).faults (O.view out.new).faults }
     ensures cause { IfErr result (λ why. (why ≡ Stop.Unwritten) ⊎ (why ≡ Stop.Memory)) }
@@ -51,7 +51,7 @@ pub fn reads<O: Sink>(alloc: Global, path: &Path, len: u64, out: &mut O) -> Resu
 /// Appends the lines of a read of `n` bytes, the read `i` of a file, which begins at byte `at`.
 fn push_share(text: &mut Vec<u8>, path: &Path, i: u64, at: u64, n: u64) -> Result<(), OutOfMemory>
     ensures { OnOk result (text.new.items ≡ text.old.items ++
-        text_of (turn abort_line path.now i at ++ read_line n ∷ [])) }
+        asked_text (turn abort_line path.now i at ++ read_line n ∷ [])) }
 {
     push_turn(text, b"c0 abort", path, i, at)?;
     push_number(text, b"c0 read f0 ", n)?;

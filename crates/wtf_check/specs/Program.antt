@@ -7,9 +7,9 @@ use Rattle.wtf_real.specs.declared.fault.OpenFault.TheVariants.{Failed, Memory}
 use Rattle.wtf_checker.specs.Checked.{Streams, IsChecked}
 
 -- the status where a file could not be opened: there is none that can be read, or memory was wanted
-abbrev pub open_status : OpenFault → ℕ
-open_status Failed = 10
-open_status Memory = 7
+abbrev pub check_open_status : OpenFault → ℕ
+check_open_status Failed = 10
+check_open_status Memory = 7
 
 -- A check that ended with this status once what the sink held back was brought out, to which no byte was added: it is that of the
 -- check, or 4 where the sink failed.

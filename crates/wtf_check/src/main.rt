@@ -2,7 +2,7 @@
 #![tactic(auto)]
 
 ghost use Rattle.std.specs.Prelude.{◌≡◌};
-ghost use Rattle.wtf_check.specs.Program.{open_status, IsCheckOver};
+ghost use Rattle.wtf_check.specs.Program.{check_open_status, IsCheckOver};
 ghost use Rattle.wtf_checker.specs.Checked.{streams};
 
 use std::alloc::Global;
@@ -44,7 +44,7 @@ fn are_two(rt: &HostRuntime) -> bool {
 
 /// The status of files that could not be opened.
 fn open_status(fault: OpenFault) -> u8
-    ensures { result ≡ open_status fault }
+    ensures { result ≡ check_open_status fault }
 {
     match fault {
         OpenFault::Failed => NO_FILES,

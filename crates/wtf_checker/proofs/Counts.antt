@@ -17,7 +17,7 @@ use Rattle.wtf_model.specs.Jobs.{MayPut}
 use Rattle.wtf_model.specs.Lawful.{client_refusal, MayAsk, MayTry, MayCommit, May}
 use Rattle.wtf_model.specs.declared.answer.Kind.{Kind}
 use Rattle.wtf_model.specs.Lines.{MayLine, after_line}
-use Rattle.wtf_checker.specs.Lawful.{line_from}
+use Rattle.wtf_checker.specs.Lawful.{event_or_bad}
 use Rattle.wtf_checker.specs.Judging.{IsAnswered, IsWithin}
 use Rattle.wtf_model.specs.Steps.{
   Machine,
@@ -152,18 +152,18 @@ module _ (m : Machine) where
   after_rises event.Tree a may = still m
 
 -- an answer that the machine may give to a line
-pub line_rises : (m : Machine) (asked : Result Event Kind) (a : Answer) → MayLine m (line_from asked) a → Rises m (after_line m (line_from asked) a)
+pub line_rises : (m : Machine) (asked : Result Event Kind) (a : Answer) → MayLine m (event_or_bad asked) a → Rises m (after_line m (event_or_bad asked) a)
 line_rises m (Err k) a may = still m
 line_rises m (Ok e) a may = after_rises m e a may
 
 -- so much is counted at most then
-pub rises_within : (most : ℕ) (m : Machine) (asked : Result Event Kind) (a : Answer) → MayLine m (line_from asked) a → IsWithin most m
-    → IsWithin (most + 1) (after_line m (line_from asked) a)
+pub rises_within : (most : ℕ) (m : Machine) (asked : Result Event Kind) (a : Answer) → MayLine m (event_or_bad asked) a → IsWithin most m
+    → IsWithin (most + 1) (after_line m (event_or_bad asked) a)
 rises_within most m asked a may w =
     let r = line_rises m asked a may in
     record { number = omega (arith, r.number, w.number); stamps = omega (arith, r.stamps, w.stamps); scans = omega (arith, r.scans, w.scans) }
 
 -- and so behind an answer that a line told
-pub answered_within : (most : ℕ) (m m' : Machine) (asked : Result Event Kind) (left rest : List ℕ) → IsAnswered m (line_from asked) left rest m'
+pub answered_within : (most : ℕ) (m m' : Machine) (asked : Result Event Kind) (left rest : List ℕ) → IsAnswered m (event_or_bad asked) left rest m'
     → IsWithin most m → IsWithin (most + 1) m'
 answered_within most m m' asked left rest a w = subst (IsWithin (most + 1)) (sym a.next_is) (rises_within most m asked a.answer a.may w)

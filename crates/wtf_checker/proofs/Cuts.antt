@@ -1,19 +1,9 @@
 -- How bytes are cut into lines.
-use Rattle.std.proofs.Common.{◌≡◌, ℕ, suc, ◌+◌, ◌<◌, List, [], ◌∷◌, ◌++◌, length, take, drop, get_or, refl, sym, ◌∙◌, ap, subst, arith}
+use Rattle.std.proofs.Common.{◌≡◌, ℕ, suc, ◌+◌, List, [], ◌∷◌, ◌++◌, drop, get_or, refl, sym, ◌∙◌, ap, subst, arith}
 use Rattle.std.specs.List.{Contains}
-use Rattle.std.proofs.lemmas.List.{take-append-drop, drop_more}
 use Rattle.wtf_script.specs.ScriptLines.{line_feed, HasNoFeed}
 use Rattle.wtf_script.proofs.LinesOf.{no_feed_head, no_feed_rest}
 use Rattle.wtf_checker.specs.Lawful.{BeginsWith}
-
--- at the first line feed
-pub cut_at : (bytes : List ℕ) (n : ℕ) → n < length bytes → get_or bytes n 0 ≡ 10 → HasNoFeed (take n bytes)
-    → BeginsWith (take n bytes) (drop (n + 1) bytes) bytes
-cut_at bytes n h e plain = record {
-  plain = plain;
-  bytes_are = sym (take-append-drop n bytes) ∙ ap (λ (l : List ℕ). take n bytes ++ l) (drop_more bytes n 0 h)
-      ∙ ap (λ (b : ℕ). take n bytes ++ b ∷ drop (n + 1) bytes) e;
-}
 
 -- bytes without a line feed begin with no line
 feed_in : (line rest : List ℕ) → Contains (line ++ line_feed ∷ rest) line_feed

@@ -10,7 +10,7 @@ use Rattle.wtf_checker.specs.Lawful.{IsVerdict}
 use Rattle.wtf_checker.specs.Sources.{HasTaken}
 use Rattle.wtf_checker.specs.Reading.{IsRead, HasStopped}
 use Rattle.wtf_checker.specs.Judging.{Judges}
-use Rattle.wtf_checker.specs.Checked.{stop_status, streams, HaveRead, verdict_status, HasWritten, HasJudged, IsStatus, IsChecked}
+use Rattle.wtf_checker.specs.Checked.{check_stop_status, streams, HaveRead, verdict_status, WroteVerdict, HasJudged, IsCheckStatus, IsChecked}
 use Rattle.wtf_checker.proofs.Scripted.{gave_none}
 
 -- the output could not be read
@@ -97,7 +97,7 @@ low (verdict.Refused k) = omega arith
 not_past : (status : ℕ) (v : Verdict) → (status ≡ verdict_status v) ⊎ (status ≡ 4) ⊎ (status ≡ 7) → (status ≡ 3) ⊎ (status ≡ 5) ⊎ (status ≡ 9) → ⊥
 not_past status v is e = omega (arith, low v, is, e)
 
-judged_so : (s s' o o' : SourceView) (k k' : SinkView) (v : Verdict) (status : ℕ) → HaveRead s s' o o' (Ok v) → HasWritten v k k' status
+judged_so : (s s' o o' : SourceView) (k k' : SinkView) (v : Verdict) (status : ℕ) → HaveRead s s' o o' (Ok v) → WroteVerdict v k k' status
     → (script output text : List ℕ) → s.rest ≡ Some script → o.rest ≡ Some output → k.taken ≡ Some text
     → HasJudged (streams s o k) (streams s' o' k') script output text status
 judged_so s s' o o' k k' (verdict.Lawful n) status h w script output text hs ho hk = record {
@@ -113,14 +113,14 @@ judged_so s s' o o' k k' (verdict.Refused n) status h w script output text hs ho
   cut = λ e. (verdict.Refused n, (h.judged (verdict.Refused n) refl script output hs ho).0, w.cut e text hk);
 }
 
-status_in : (v : Verdict) (status : ℕ) → (status ≡ verdict_status v) ⊎ (status ≡ 4) ⊎ (status ≡ 7) → IsStatus status
+status_in : (v : Verdict) (status : ℕ) → (status ≡ verdict_status v) ⊎ (status ≡ 4) ⊎ (status ≡ 7) → IsCheckStatus status
 status_in (verdict.Lawful n) status (inl e) = inl e
 status_in (verdict.Refused n) status (inl e) = inr (inl e)
 status_in v status (inr (inl e)) = inr (inr (inr (inl e)))
 status_in v status (inr (inr e)) = inr (inr (inr (inr (inr (inl e)))))
 
 -- a verdict was told, or could not be
-pub checked_told : (s s' o o' : SourceView) (k k' : SinkView) (v : Verdict) (status : ℕ) → HaveRead s s' o o' (Ok v) → HasWritten v k k' status
+pub checked_told : (s s' o o' : SourceView) (k k' : SinkView) (v : Verdict) (status : ℕ) → HaveRead s s' o o' (Ok v) → WroteVerdict v k k' status
     → IsChecked status (streams s o k) (streams s' o' k')
 checked_told s s' o o' k k' v status h w = record {
   status_is = status_in v status w.status_is;
@@ -138,42 +138,42 @@ checked_told s s' o o' k k' v status h w = record {
 }
 
 -- there is no verdict
-stopped_status : (why : Stop) → (why ≡ stop.Unwritten → ⊥) → IsStatus (stop_status why)
+stopped_status : (why : Stop) → (why ≡ stop.Unwritten → ⊥) → IsCheckStatus (check_stop_status why)
 stopped_status stop.Unread h = inr (inr (inl refl))
 stopped_status stop.Unwritten h = absurd (h refl)
 stopped_status stop.Unanswered h = inr (inr (inr (inr (inl refl))))
 stopped_status stop.Memory h = inr (inr (inr (inr (inr (inl refl)))))
 stopped_status stop.TooMuch h = inr (inr (inr (inr (inr (inr refl)))))
 
-not_verdict : (why : Stop) → 2 ≤ stop_status why
+not_verdict : (why : Stop) → 2 ≤ check_stop_status why
 not_verdict stop.Unread = omega arith
 not_verdict stop.Unwritten = omega arith
 not_verdict stop.Unanswered = omega arith
 not_verdict stop.Memory = omega arith
 not_verdict stop.TooMuch = omega arith
 
-is_3 : (why : Stop) → stop_status why ≡ 3 → why ≡ stop.Unread
+is_3 : (why : Stop) → check_stop_status why ≡ 3 → why ≡ stop.Unread
 is_3 stop.Unread e = refl
 is_3 stop.Unwritten e = absurd (omega (arith, e))
 is_3 stop.Unanswered e = absurd (omega (arith, e))
 is_3 stop.Memory e = absurd (omega (arith, e))
 is_3 stop.TooMuch e = absurd (omega (arith, e))
 
-is_4 : (why : Stop) → stop_status why ≡ 4 → why ≡ stop.Unwritten
+is_4 : (why : Stop) → check_stop_status why ≡ 4 → why ≡ stop.Unwritten
 is_4 stop.Unread e = absurd (omega (arith, e))
 is_4 stop.Unwritten e = refl
 is_4 stop.Unanswered e = absurd (omega (arith, e))
 is_4 stop.Memory e = absurd (omega (arith, e))
 is_4 stop.TooMuch e = absurd (omega (arith, e))
 
-is_5 : (why : Stop) → stop_status why ≡ 5 → why ≡ stop.Unanswered
+is_5 : (why : Stop) → check_stop_status why ≡ 5 → why ≡ stop.Unanswered
 is_5 stop.Unread e = absurd (omega (arith, e))
 is_5 stop.Unwritten e = absurd (omega (arith, e))
 is_5 stop.Unanswered e = refl
 is_5 stop.Memory e = absurd (omega (arith, e))
 is_5 stop.TooMuch e = absurd (omega (arith, e))
 
-is_9 : (why : Stop) → stop_status why ≡ 9 → why ≡ stop.TooMuch
+is_9 : (why : Stop) → check_stop_status why ≡ 9 → why ≡ stop.TooMuch
 is_9 stop.Unread e = absurd (omega (arith, e))
 is_9 stop.Unwritten e = absurd (omega (arith, e))
 is_9 stop.Unanswered e = absurd (omega (arith, e))
@@ -187,7 +187,7 @@ is_err : (a b : Stop) → ◌≡◌ {A = Result Verdict Stop} (Err a) (Err b) �
 is_err a b e = cc
 
 pub checked_stopped : (s s' o o' : SourceView) (k : SinkView) (why : Stop) → HaveRead s s' o o' (Err why)
-    → IsChecked (stop_status why) (streams s o k) (streams s' o' k)
+    → IsChecked (check_stop_status why) (streams s o k) (streams s' o' k)
 checked_stopped s s' o o' k why h =
     let written : why ≡ stop.Unwritten → ⊥ = λ e. h.read_alone (err_is why stop.Unwritten e) in
     record {
@@ -196,7 +196,7 @@ checked_stopped s s' o o' k why h =
       output_taken = h.output_taken;
       script_gave = h.script_gave;
       output_gave = h.output_gave;
-      limit = (λ e. h.limit.0 (err_is why stop.TooMuch (is_9 why e)), λ r. ap stop_status (is_err why stop.TooMuch (h.limit.1 r)));
+      limit = (λ e. h.limit.0 (err_is why stop.TooMuch (is_9 why e)), λ r. ap check_stop_status (is_err why stop.TooMuch (h.limit.1 r)));
       script_cause = λ e. h.script_cause (err_is why stop.Unread (is_3 why e));
       sink_cause = λ e. absurd (written (is_4 why e));
       output_cause = λ e. h.output_cause (err_is why stop.Unanswered (is_5 why e));

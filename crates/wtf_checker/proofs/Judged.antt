@@ -38,7 +38,7 @@ use Rattle.wtf_script.specs.ScriptLines.{lines_of, fed, HasNoFeed}
 use Rattle.wtf_script.proofs.LinesOf.{fed-push}
 use Rattle.wtf_print.specs.Texts.{text_of}
 use Rattle.wtf_checker.specs.declared.verdict.Verdict.TheVariants as verdict
-use Rattle.wtf_checker.specs.Lawful.{line_from, line_of, asked_in, BeginsWith, first, first_text, IsTold, AreLawful, IsRefused, HasNoSettings}
+use Rattle.wtf_checker.specs.Lawful.{event_or_bad, line_of, asked_in, BeginsWith, first, first_text, IsTold, AreLawful, RefusesAnswer, HasNoSettings}
 use Rattle.wtf_checker.specs.Reading.{IsReading, IsRead, HasNext}
 use Rattle.wtf_checker.specs.Judging.{IsAnswered, IsWithin, IsLawfulSoFar, place, Judges, end_of}
 use Rattle.wtf_checker.proofs.Scripted.{told_front}
@@ -68,8 +68,8 @@ sofar_first start now held settings output answers m reading is begins = record 
 
 -- what one line more asks
 asked_push : (lines : List (List ℕ)) (line : List ℕ) (asked : Result Event Kind) → event_of line ≡ asked
-    → map line_of (lines ++ line ∷ []) ≡ map line_of lines ++ line_from asked ∷ []
-asked_push lines line asked asks = map-append line_of lines (line ∷ []) ∙ ap (λ (x : Result Event Kind). map line_of lines ++ line_from x ∷ []) asks
+    → map line_of (lines ++ line ∷ []) ≡ map line_of lines ++ event_or_bad asked ∷ []
+asked_push lines line asked asks = map-append line_of lines (line ∷ []) ∙ ap (λ (x : Result Event Kind). map line_of lines ++ event_or_bad x ∷ []) asks
 
 -- the line of one answer more
 text_push : (given : List Answer) (a : Answer) (left rest behind : List ℕ) → behind ≡ fed (map text_of given) ++ left → left ≡ text_of a ++ 10 ∷ rest
@@ -103,7 +103,8 @@ machine_push settings lines given left rest behind m next line are is a =
 
 pub sofar_more : (start now next : SourceView) (held held' : Held) (settings : Settings) (output left rest : List ℕ) (n : ℕ) (m m' : Machine)
     (asked : Result Event Kind)
-    → (s : IsLawfulSoFar start (place now held) settings output left n m) → HasNext start next held' s.lines asked → IsAnswered m (line_from asked) left rest m'
+    → (s : IsLawfulSoFar start (place now held) settings output left n m) → HasNext start next held' s.lines asked
+    → IsAnswered m (event_or_bad asked) left rest m'
     → IsLawfulSoFar start (place next held') settings output rest (n + 1) m'
 sofar_more start now next held held' settings output left rest n m m' asked s h a =
     let push = sym (asked_push s.lines h.line asked h.asks) in
@@ -115,15 +116,15 @@ sofar_more start now next held held' settings output left rest n m m' asked s h 
       begins = s.begins;
       given = s.given ++ a.answer ∷ [];
       are = subst (λ (ls : List Line). AreLawful settings ls (s.given ++ a.answer ∷ []) rest s.behind) push
-          (lawful_push settings (map line_of s.lines) s.given left rest s.behind m m' (line_from asked) s.are s.machine_is a);
+          (lawful_push settings (map line_of s.lines) s.given left rest s.behind m m' (event_or_bad asked) s.are s.machine_is a);
       machine_is = subst (λ (ls : List Line). m' ≡ machine_after (first settings) ls (s.given ++ a.answer ∷ [])) push
-          (machine_push settings (map line_of s.lines) s.given left rest s.behind m m' (line_from asked) s.are s.machine_is a);
+          (machine_push settings (map line_of s.lines) s.given left rest s.behind m m' (event_or_bad asked) s.are s.machine_is a);
     }
 
 -- the next line is refused
 pub judged_refused : (start now next : SourceView) (held held' : Held) (settings : Settings) (output left : List ℕ) (n : ℕ) (m : Machine)
     (asked : Result Event Kind)
-    → (s : IsLawfulSoFar start (place now held) settings output left n m) → HasNext start next held' s.lines asked → IsRefused m (line_from asked) left
+    → (s : IsLawfulSoFar start (place now held) settings output left n m) → HasNext start next held' s.lines asked → RefusesAnswer m (event_or_bad asked) left
     → Judges start output (Ok (verdict.Refused (n + 1)))
 judged_refused start now next held held' settings output left n m asked s h refused = λ script is.
     let f = told_front script next.rest held' (s.lines ++ h.line ∷ []) (h.reading.told script is) in
@@ -135,15 +136,15 @@ judged_refused start now next held held' settings output left n m asked s h refu
         behind = s.behind;
         begins = s.begins;
         front = map line_of s.lines;
-        next = line_from asked ∷ map line_of f.0;
+        next = event_or_bad asked ∷ map line_of f.0;
         lines_are = ap (λ (ls : List (List ℕ)). map line_of ls) f.1 ∙ map-append line_of (s.lines ++ h.line ∷ []) f.0
             ∙ ap (λ (ls : List Line). ls ++ map line_of f.0) (asked_push s.lines h.line asked h.asks)
-            ∙ append_assoc (map line_of s.lines) (line_from asked ∷ []) (map line_of f.0);
+            ∙ append_assoc (map line_of s.lines) (event_or_bad asked ∷ []) (map line_of f.0);
         count = length-map s.lines line_of ∙ sym s.count;
         given = s.given;
         rest = left;
         are = s.are;
-        stuck = subst (λ (x : Machine). IsRefused x (line_from asked) left) s.machine_is refused;
+        stuck = subst (λ (x : Machine). RefusesAnswer x (event_or_bad asked) left) s.machine_is refused;
       },
     )
 
@@ -186,8 +187,8 @@ judged_whole start next held' settings output (b ∷ bs) n lines count read behi
 
 pub judged_end : (start now next : SourceView) (held held' : Held) (settings : Settings) (output left : List ℕ) (n : ℕ) (m : Machine)
     → (s : IsLawfulSoFar start (place now held) settings output left n m) → IsRead start next held' s.lines → Judges start output (Ok (end_of n left))
-judged_end start now next held held' settings output left n m s read =
-    judged_whole start next held' settings output left n s.lines s.count read s.behind s.begins s.given s.are
+judged_end start now next held held' settings output left n m s read = judged_whole start next held' settings output left n s.lines s.count read s.behind
+    s.begins s.given s.are
 
 -- the settings are refused
 pub judged_none : (start : SourceView) (output : List ℕ) → HasNoSettings output → Judges start output (Ok (verdict.Refused 0))

@@ -41,8 +41,7 @@ pub settings_one : (s t : Settings) → first_text s ≡ first_text t → s ≡ 
 settings_one s t e =
     let words = sym (settings_words s) ∙ ap words_of e ∙ settings_words t in
     let l = bounds s in
-    let k = bounds t in
-    numbers_one s.servers s.replicas s.region s.limits
+    let k = bounds t in numbers_one s.servers s.replicas s.region s.limits
     t.servers (number_one s.servers t.servers (omega (arith, l.0)) (omega (arith, k.0)) (ap (λ (ws : List (List ℕ)). get_or ws 2 []) words))
     t.replicas (number_one s.replicas t.replicas (omega (arith, l.1)) (omega (arith, k.1)) (ap (λ (ws : List (List ℕ)). get_or ws 4 []) words))
     t.region (number_one s.region t.region l.2 k.2 (ap (λ (ws : List (List ℕ)). get_or ws 6 []) words)) t.limits

@@ -320,11 +320,6 @@ went_wrong start now held lines (Ok (Some x)) why next is = absurd cc
 went_wrong start now held lines (Ok None) why next is = absurd cc
 went_wrong start now held lines (Err e) why next is = let same : e ≡ why = cc in subst (λ x. HasStopped start now held x) same next
 
-pub went_less : (old new : Held) (asked : Result (Option (Result Event Kind)) Stop) → HasLess old new asked → IsMore asked (Ok true) → work new < work old
-went_less old new (Ok (Some x)) less is = less
-went_less old new (Ok None) less is = absurd cc
-went_less old new (Err why) less is = absurd cc
-
 -- memory is wanting behind the lines that were read
 pub reading_stopped : (start now : SourceView) (held : Held) (lines : List (List ℕ)) → IsReading start now held lines → HasStopped start now held stop.Memory
 reading_stopped start now held lines was = record {

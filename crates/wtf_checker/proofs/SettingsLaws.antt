@@ -25,24 +25,32 @@ numbered : (n : ℕ) (key behind : List ℕ) (ws : List (List ℕ)) → n < 2 ^ 
 numbered n key behind ws h e = first-word (decimal n) behind (number-no_space n h) ∙ ap (λ (x : List (List ℕ)). decimal n ∷ x) e
 
 words_from : (n r g z : ℕ) → n < 2 ^ 64 → r < 2 ^ 64 → g < 2 ^ 64 → z < 2 ^ 64
-    → words_of (codes "wtf servers " ++ (decimal n ++ (codes " replicas " ++ (decimal r ++ (codes " region " ++ (decimal g ++ (codes " number " ++ decimal z)))))))
+    → words_of (codes "wtf servers "
+    ++ (decimal n ++ (codes " replicas " ++ (decimal r ++ (codes " region " ++ (decimal g ++ (codes " number " ++ decimal z)))))))
     ≡ codes "wtf" ∷ codes "servers" ∷ decimal n ∷ codes "replicas" ∷ decimal r ∷ codes "region" ∷ decimal g ∷ codes "number" ∷ decimal z ∷ []
 words_from n r g z hn hr hg hz =
-    let last : words_of (codes "number " ++ decimal z) ≡ codes "number" ∷ decimal z ∷ [] = ap (λ (x : List (List ℕ)). codes "number" ∷ x) (one-word (decimal z) (number-no_space z hz)) in
+    let last : words_of (codes "number " ++ decimal z) ≡ codes "number" ∷ decimal z ∷ [] =
+    ap (λ (x : List (List ℕ)). codes "number" ∷ x) (one-word (decimal z) (number-no_space z hz)) in
     let region : words_of (codes "region " ++ (decimal g ++ (codes " number " ++ decimal z))) ≡ codes "region" ∷ decimal g ∷ codes "number" ∷ decimal z ∷ [] =
     ap (λ (x : List (List ℕ)). codes "region" ∷ x) (numbered g (codes "number") (codes "number " ++ decimal z) (decimal z ∷ []) hg last) in
-    let replicas : words_of (codes "replicas " ++ (decimal r ++ (codes " region " ++ (decimal g ++ (codes " number " ++ decimal z))))) ≡ codes "replicas" ∷ decimal r ∷ codes "region" ∷ decimal g ∷ codes "number" ∷ decimal z ∷ [] =
-    ap (λ (x : List (List ℕ)). codes "replicas" ∷ x) (numbered r (codes "region") (codes "region " ++ (decimal g ++ (codes " number " ++ decimal z))) (decimal g ∷ codes "number" ∷ decimal z ∷ []) hr region) in
+    let replicas : words_of (codes "replicas " ++ (decimal r ++ (codes " region " ++ (decimal g ++ (codes " number " ++ decimal z)))))
+    ≡ codes "replicas" ∷ decimal r ∷ codes "region" ∷ decimal g ∷ codes "number" ∷ decimal z ∷ [] =
+    ap (λ (x : List (List ℕ)). codes "replicas" ∷ x)
+    (numbered r (codes "region") (codes "region " ++ (decimal g ++ (codes " number " ++ decimal z)))
+    (decimal g ∷ codes "number" ∷ decimal z ∷ []) hr region) in
     ap (λ (x : List (List ℕ)). codes "wtf" ∷ codes "servers" ∷ x)
-    (numbered n (codes "replicas") (codes "replicas " ++ (decimal r ++ (codes " region " ++ (decimal g ++ (codes " number " ++ decimal z))))) (decimal r ∷ codes "region" ∷ decimal g ∷ codes "number" ∷ decimal z ∷ []) hn replicas)
+    (numbered n (codes "replicas") (codes "replicas " ++ (decimal r ++ (codes " region " ++ (decimal g ++ (codes " number " ++ decimal z)))))
+    (decimal r ∷ codes "region" ∷ decimal g ∷ codes "number" ∷ decimal z ∷ []) hn replicas)
 
 -- the words of a line of settings
 pub settings_words : (s : Settings) → words_of (first_text s)
-    ≡ codes "wtf" ∷ codes "servers" ∷ decimal s.servers ∷ codes "replicas" ∷ decimal s.replicas ∷ codes "region" ∷ decimal s.region ∷ codes "number" ∷ decimal 0 ∷ []
+    ≡ codes "wtf" ∷ codes "servers" ∷ decimal s.servers ∷ codes "replicas" ∷ decimal s.replicas ∷ codes "region" ∷ decimal s.region ∷ codes "number" ∷ decimal 0
+    ∷ []
 unfolding settings_text
 settings_words s =
     let l : AreSettings s.servers s.replicas s.region = s.limits in
-    ap words_of (right (codes "wtf servers ") (decimal s.servers) (codes " replicas ") (decimal s.replicas) (codes " region ") (decimal s.region) (codes " number ") (decimal 0))
+    ap words_of (right (codes "wtf servers ") (decimal s.servers) (codes " replicas ") (decimal s.replicas) (codes " region ") (decimal s.region)
+    (codes " number ") (decimal 0))
     ∙ words_from s.servers s.replicas s.region 0 (omega (arith, l)) (omega (arith, l)) (omega (arith, l)) (omega arith)
 
 -- settings of one line are the same

@@ -51,7 +51,7 @@ use Rattle.wtf_model.specs.Steps.{Machine, IsLogged, cap_of, due, session_of, af
 use Rattle.wtf_model.specs.Lines.{MayLine, after_line}
 use Rattle.wtf_model.proofs.StepLaws.{IsLogged-call, IsStoreFault-MayFail}
 use Rattle.wtf_print.specs.Forms.{IsWritable}
-use Rattle.wtf_checker.specs.Lawful.{line_from}
+use Rattle.wtf_checker.specs.Lawful.{event_or_bad}
 
 -- the same answer of a call, where a transaction was aborted at the same call
 abbrev pub AreAborts : Answer → Answer → Type 0
@@ -185,8 +185,8 @@ may_aborts a b s m (event.Dump p) (inr fails) = absurd (dump_fails m.settings.se
 may_aborts a b s m event.Tree h = absurd (not_abort a b s _ tt h)
 
 -- the machine may give both of two answers that say the same
-pub may_same : (m : Machine) (asked : Result Event Kind) (a b : Answer) → IsWritable a → AreSame a b → MayLine m (line_from asked) a
-    → MayLine m (line_from asked) b
+pub may_same : (m : Machine) (asked : Result Event Kind) (a b : Answer) → IsWritable a → AreSame a b → MayLine m (event_or_bad asked) a
+    → MayLine m (event_or_bad asked) b
 may_same m (Ok e) a b form same h = elim (same_or_aborts a b form same) [
   | inl is ↦ subst (λ x. May m e x) is h
   | inr aborts ↦ may_aborts a b aborts m e h
@@ -224,7 +224,7 @@ event_after a b s m e = absurd s
 
 -- and it is the same machine behind them
 pub after_same : (m : Machine) (asked : Result Event Kind) (a b : Answer) → IsWritable a → AreSame a b
-    → after_line m (line_from asked) a ≡ after_line m (line_from asked) b
+    → after_line m (event_or_bad asked) a ≡ after_line m (event_or_bad asked) b
 after_same m (Ok e) a b form same = elim (same_or_aborts a b form same) [
   | inl is ↦ ap (λ x. after m e x) is
   | inr aborts ↦ event_after a b aborts m e

@@ -11,21 +11,21 @@ use Rattle.wtf_checker.specs.Lawful.{IsVerdict, verdict_line, IsFirstRefused}
 use Rattle.wtf_checker.specs.Sources.{Gave}
 
 -- the statuses of what stops a check
-abbrev pub stop_status : Stop → ℕ
-stop_status stop.Unread = 3
-stop_status stop.Unwritten = 4
-stop_status stop.Unanswered = 5
-stop_status stop.Memory = 7
-stop_status stop.TooMuch = 9
+abbrev pub check_stop_status : Stop → ℕ
+check_stop_status stop.Unread = 3
+check_stop_status stop.Unwritten = 4
+check_stop_status stop.Unanswered = 5
+check_stop_status stop.Memory = 7
+check_stop_status stop.TooMuch = 9
 
 -- a front of a text was written, and no more
-abbrev pub WroteFront : List ℕ → List ℕ → Option (List ℕ) → Type 0
-WroteFront old text new = (front : List ℕ) × (back : List ℕ) × (text ≡ front ++ back) × (new ≡ Some (old ++ front))
+abbrev pub VerdictFront : List ℕ → List ℕ → Option (List ℕ) → Type 0
+VerdictFront old text new = (front : List ℕ) × (back : List ℕ) × (text ≡ front ++ back) × (new ≡ Some (old ++ front))
 
 -- all of a text was taken, or a front of it where the sink failed
-abbrev pub AllTaken : {E : Type 0} → List ℕ → List ℕ → Option (List ℕ) → Result (Unit {0}) E → Type 0
-AllTaken old text new (Ok u) = new ≡ Some (old ++ text)
-AllTaken old text new (Err e) = WroteFront old text new
+abbrev pub VerdictTaken : {E : Type 0} → List ℕ → List ℕ → Option (List ℕ) → Result (Unit {0}) E → Type 0
+VerdictTaken old text new (Ok u) = new ≡ Some (old ++ text)
+VerdictTaken old text new (Err e) = VerdictFront old text new
 
 -- both sources were read, or what stopped that had its cause
 pub record HaveRead (script script' output output' : SourceView) (result : Result Verdict Stop) : Type 0 where
@@ -46,13 +46,13 @@ verdict_status (verdict.Lawful n) = 0
 verdict_status (verdict.Refused k) = 1
 
 -- the line of a verdict was written, or not
-pub record HasWritten (v : Verdict) (sink sink' : SinkView) (status : ℕ) : Type 0 where
+pub record WroteVerdict (v : Verdict) (sink sink' : SinkView) (status : ℕ) : Type 0 where
   pub status_is : (status ≡ verdict_status v) ⊎ (status ≡ 4) ⊎ (status ≡ 7)
   pub faults : sink.faults ≤ sink'.faults
   pub cause : status ≡ 4 → Rose sink.faults sink'.faults
   pub short : status ≡ 7 → sink' ≡ sink
   pub wrote : status ≡ verdict_status v → (text : List ℕ) → sink.taken ≡ Some text → sink'.taken ≡ Some (text ++ verdict_line v)
-  pub cut : status ≡ 4 → (text : List ℕ) → sink.taken ≡ Some text → WroteFront text (verdict_line v) sink'.taken
+  pub cut : status ≡ 4 → (text : List ℕ) → sink.taken ≡ Some text → VerdictFront text (verdict_line v) sink'.taken
 
 -- the script, the output that is checked, and where the verdict goes
 pub record Streams : Type 0 where
@@ -72,15 +72,15 @@ pub record HasJudged (old new : Streams) (script output text : List ℕ) (status
   -- then both were read to their end
   pub whole : (status ≡ 0) ⊎ (status ≡ 1) → (new.script.rest ≡ Some []) × (new.output.rest ≡ Some [])
   -- 4: a front of the line of the verdict
-  pub cut : status ≡ 4 → (v : Verdict) × IsVerdict script output v × WroteFront text (verdict_line v) new.sink.taken
+  pub cut : status ≡ 4 → (v : Verdict) × IsVerdict script output v × VerdictFront text (verdict_line v) new.sink.taken
 
 -- the statuses
-abbrev pub IsStatus : ℕ → Type 0
-IsStatus s = (s ≡ 0) ⊎ (s ≡ 1) ⊎ (s ≡ 3) ⊎ (s ≡ 4) ⊎ (s ≡ 5) ⊎ (s ≡ 7) ⊎ (s ≡ 9)
+abbrev pub IsCheckStatus : ℕ → Type 0
+IsCheckStatus s = (s ≡ 0) ⊎ (s ≡ 1) ⊎ (s ≡ 3) ⊎ (s ≡ 4) ⊎ (s ≡ 5) ⊎ (s ≡ 7) ⊎ (s ≡ 9)
 
 -- A check that ended with this status.
 pub record IsChecked (status : ℕ) (old new : Streams) : Type 0 where
-  pub status_is : IsStatus status
+  pub status_is : IsCheckStatus status
   -- how many bytes of the script and of the output came
   pub script_taken : ℕ
   pub output_taken : ℕ

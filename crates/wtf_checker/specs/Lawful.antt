@@ -17,13 +17,13 @@ use Rattle.wtf_checker.specs.declared.verdict.Verdict.{Verdict}
 use Rattle.wtf_checker.specs.declared.verdict.Verdict.TheVariants as verdict
 
 -- an event, or the answer to a line that asks nothing: what is wrong with it
-abbrev pub line_from : Result Event Kind → Line
-line_from (Ok e) = Ok e
-line_from (Err k) = Err (answer.Bad k)
+abbrev pub event_or_bad : Result Event Kind → Line
+event_or_bad (Ok e) = Ok e
+event_or_bad (Err k) = Err (answer.Bad k)
 
 -- what a line asks
 abbrev pub line_of : List ℕ → Line
-line_of bytes = line_from (event_of bytes)
+line_of bytes = event_or_bad (event_of bytes)
 
 -- what the lines of a script ask, one after another
 abbrev pub asked_in : List ℕ → List Line
@@ -65,13 +65,13 @@ pub record IsLawful (script output : List ℕ) : Type 0 where
   pub accepts : Accepts (first settings) (events_of (asked_in script)) (answers_to (asked_in script) given)
 
 -- bytes begin with no line that tells an answer which the machine may give
-abbrev pub IsRefused : Machine → Line → List ℕ → Type 0
-IsRefused m line bytes = (a : Answer) (rest : List ℕ) → IsTold a → BeginsWith (text_of a) rest bytes → MayLine m line a → ⊥
+abbrev pub RefusesAnswer : Machine → Line → List ℕ → Type 0
+RefusesAnswer m line bytes = (a : Answer) (rest : List ℕ) → IsTold a → BeginsWith (text_of a) rest bytes → MayLine m line a → ⊥
 
 -- the next line is not answered lawfully; behind the last line something is left
 abbrev pub IsStuck : Machine → List Line → List ℕ → Type 0
 IsStuck m [] bytes = bytes ≢ []
-IsStuck m (line ∷ lines) bytes = IsRefused m line bytes
+IsStuck m (line ∷ lines) bytes = RefusesAnswer m line bytes
 
 -- No settings begin the output
 abbrev pub HasNoSettings : List ℕ → Type 0

@@ -4,7 +4,7 @@ ghost use Rattle.std.specs.Prelude.{◌≡◌, ◌≤◌, ◌++◌, ◌∷◌, [
 ghost use Rattle.wtf_dev.specs.Counts.{Rose};
 ghost use Rattle.wtf_script.specs.ScriptLines.{line_feed};
 ghost use Rattle.wtf_checker.specs.Lawful.{verdict_line, IsOneVerdict};
-ghost use Rattle.wtf_checker.specs.Checked.{AllTaken, HasWritten, HaveRead, IsChecked, streams, verdict_status};
+ghost use Rattle.wtf_checker.specs.Checked.{VerdictTaken, WroteVerdict, HaveRead, IsChecked, streams, verdict_status};
 
 use crate::judge::judge;
 use crate::output::read_all;
@@ -70,7 +70,7 @@ fn verdict_line(alloc: Global, verdict: Verdict) -> Result<Vec<u8>, OutOfMemory>
 /// Writes all of a text.
 fn write_all<O: Sink>(out: &mut O, text: &[u8]) -> Result<(), Failed>
     ensures told { (old : List ℕ) → (O.view out.old).taken ≡ Some old →
-        AllTaken old text.now (O.view out.new).taken result }
+        VerdictTaken old text.now (O.view out.new).taken result }
     ensures faults { (O.view out.old).faults ≤ (O.view out.new).faults }
     ensures cause { OnErr result (Rose (O.view out.old).faults (O.view out.new).faults) }
 {
@@ -97,7 +97,7 @@ fn status_of(verdict: Verdict) -> u8
 
 /// Writes the line of a verdict, and answers the status.
 fn tell<O: Sink>(alloc: Global, verdict: Verdict, out: &mut O) -> u8
-    ensures { HasWritten verdict (O.view out.old) (O.view out.new) result }
+    ensures { WroteVerdict verdict (O.view out.old) (O.view out.new) result }
 {
     let Ok(line) = verdict_line(alloc, verdict) else {
         return OUT_OF_MEMORY;

@@ -13,7 +13,7 @@ ghost use Rattle.wtf_machine.specs.Machines.{machine_in};
 ghost use Rattle.wtf_print.specs.Texts.{text_of};
 ghost use Rattle.wtf_print.specs.Forms.{IsWritable};
 ghost use Rattle.wtf_model.specs.Same.{AreSame};
-ghost use Rattle.wtf_checker.specs.Lawful.{BeginsWith, IsRefused, first, first_text, line_from};
+ghost use Rattle.wtf_checker.specs.Lawful.{BeginsWith, RefusesAnswer, first, first_text, event_or_bad};
 ghost use Rattle.wtf_checker.specs.Reading.{IsReading, IsFormAsked, ReadOn};
 ghost use Rattle.wtf_checker.specs.Judging.{IsAnswered, IsWithin, IsAnswerOf, Judges, end_of};
 
@@ -50,9 +50,9 @@ fn may(
     requires stamps { (machine_in machine.old).next_stamp < 2 ^ 63 }
     requires scans { (machine_in machine.old).scans < 2 ^ 63 }
     ensures { IfOk result (Decides
-        (MayLine (machine_in machine.old) (line_from asked.now) answer.now)
+        (MayLine (machine_in machine.old) (event_or_bad asked.now) answer.now)
         (machine_in machine.old)
-        (after_line (machine_in machine.old) (line_from asked.now) answer.now)
+        (after_line (machine_in machine.old) (event_or_bad asked.now) answer.now)
         (machine_in machine.new)) }
 {
     match asked {
@@ -85,8 +85,8 @@ fn answered<'a>(
     requires stamps { (machine_in machine.old).next_stamp < 2 ^ 63 }
     requires scans { (machine_in machine.old).scans < 2 ^ 63 }
     ensures { IfOk result (λ found. MatchOption found
-        (IsRefused (machine_in machine.old) (line_from asked.now) output.now)
-        (λ rest. IsAnswered (machine_in machine.old) (line_from asked.now) output.now rest.now
+        (RefusesAnswer (machine_in machine.old) (event_or_bad asked.now) output.now)
+        (λ rest. IsAnswered (machine_in machine.old) (event_or_bad asked.now) output.now rest.now
         (machine_in machine.new))) }
 {
     let Some((text, behind)) = split_line(output) else {

@@ -1,7 +1,7 @@
 //! The statuses of a check.
 
 ghost use Rattle.std.specs.Prelude.{◌≡◌};
-ghost use Rattle.wtf_checker.specs.Checked.{stop_status};
+ghost use Rattle.wtf_checker.specs.Checked.{check_stop_status};
 ghost use Rattle.wtf_checker.specs.declared.stop.Stop.TheVariants as stop;
 
 use std::alloc::{AllocError, AllocFailed};
@@ -65,7 +65,7 @@ impl<T: Drop> From<AllocFailed<T>> for Stop {
 impl Stop {
     /// The status of a check that ends so.
     pub(crate) fn status(self) -> u8
-        ensures { result ≡ stop_status self }
+        ensures { result ≡ check_stop_status self }
     {
         match self {
             Stop::Unread => SCRIPT_FAILED,

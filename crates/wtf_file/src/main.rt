@@ -3,7 +3,7 @@
 
 ghost use Rattle.std.specs.Prelude.{◌≡◌, ℕ, List, Some, drop, OnOk, IfErr};
 ghost use Rattle.std.specs.Process.{exit_status};
-ghost use Rattle.wtf_file.specs.Program.{IsStatus, HasLength, Does};
+ghost use Rattle.wtf_file.specs.Program.{IsFileStatus, HasNamedLength, Does};
 
 mod status;
 mod task;
@@ -36,7 +36,7 @@ fn told(rt: &HostRuntime, status: u8) -> ExitCode
 
 /// Does what the words ask, and answers the status.
 fn status_of(rt: &HostRuntime) -> u8
-    ensures { IsStatus result }
+    ensures { IsFileStatus result }
 {
     let args = match args_of(rt) {
         Ok(args) => args,
@@ -67,7 +67,7 @@ fn run<I: Source, O: Sink>(
     from: &mut I,
     out: &mut O,
 ) -> Result<(), Stop>
-    requires { HasLength task.now }
+    requires { HasNamedLength task.now }
     ensures { OnOk result ((all old : List ℕ) → (I.view from.old).rest ≡ Some all →
         (O.view out.old).taken ≡ Some old → Does task.now all old (O.view out.new).taken) }
 {
@@ -90,7 +90,7 @@ fn behind_name(args: &[String]) -> &[String]
 
 /// The program's name and the words after it, or the status where they cannot be had: words that are no text are refused.
 fn args_of(rt: &HostRuntime) -> Result<Vec<String>, u8>
-    ensures { IfErr result IsStatus }
+    ensures { IfErr result IsFileStatus }
 {
     let all = match env::args(rt) {
         Ok(all) => all,

@@ -1,7 +1,7 @@
 //! The statuses that the program ends with, and their lines.
 
 ghost use Rattle.std.specs.Prelude.{◌≡◌, option_map};
-ghost use Rattle.wtf_file.specs.Program.{status_line, stop_status};
+ghost use Rattle.wtf_file.specs.Program.{status_line, file_stop_status};
 
 use wtf_carry::Stop;
 
@@ -36,7 +36,7 @@ pub(crate) fn line_of(status: u8) -> Option<&'static str>
 
 /// The status of a task that was not done.
 pub(crate) fn stop_status(stop: Stop) -> u8
-    ensures { result ≡ stop_status stop }
+    ensures { result ≡ file_stop_status stop }
 {
     match stop {
         Stop::Wrong => WRONG_ANSWERS,

@@ -1,7 +1,7 @@
 //! What the words ask for.
 
 ghost use Rattle.std.specs.Prelude.{IfOk, IfSome};
-ghost use Rattle.wtf_file.specs.Program.{HasLength};
+ghost use Rattle.wtf_file.specs.Program.{HasNamedLength};
 
 use std::alloc::Global;
 use wtf_base::OutOfMemory;
@@ -21,7 +21,7 @@ pub(crate) enum Task {
 
 /// What the words behind the program's name ask for: nothing where they are no task.
 pub(crate) fn task_of(alloc: Global, words: &[String]) -> Result<Option<Task>, OutOfMemory>
-    ensures { IfOk result (λ asked. IfSome asked HasLength) }
+    ensures { IfOk result (λ asked. IfSome asked HasNamedLength) }
 {
     match words {
         [verb, path] if verb.as_str() == "put" => {

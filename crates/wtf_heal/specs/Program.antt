@@ -5,16 +5,16 @@ use Rattle.wtf_dev.specs.Memory.{StoreState, KeeperState}
 use Rattle.wtf_real.specs.declared.fault.OpenFault.{OpenFault}
 use Rattle.wtf_real.specs.declared.fault.OpenFault.TheVariants.{Failed, Memory}
 use Rattle.wtf_real.specs.Folders.{FolderState, folder_of}
-use Rattle.wtf_healer.specs.Runs.{IsStatus}
+use Rattle.wtf_healer.specs.Runs.{IsHealStatus}
 
 -- the status where a device could not be opened
-abbrev pub open_status : OpenFault → ℕ
-open_status Failed = 10
-open_status Memory = 7
+abbrev pub heal_open_status : OpenFault → ℕ
+heal_open_status Failed = 10
+heal_open_status Memory = 7
 
 -- the statuses that the program ends with
 abbrev pub IsEnd : ℕ → Type 0
-IsEnd status = (status ≡ 10) ⊎ IsStatus status
+IsEnd status = (status ≡ 10) ⊎ IsHealStatus status
 
 -- a word names a folder: it has a byte, and does not look like an option
 abbrev pub is_name : List ℕ → Bool

@@ -3,7 +3,7 @@
 
 ghost use Rattle.std.specs.Prelude.{◌≡◌, ℕ, List, [], Some, drop, map, string_bytes, IfErr};
 ghost use Rattle.wtf_dev.specs.Each.{EachFollows};
-ghost use Rattle.wtf_heal.specs.Program.{IsEnd, is_name, open_status};
+ghost use Rattle.wtf_heal.specs.Program.{IsEnd, is_name, heal_open_status};
 ghost use Rattle.wtf_healer.specs.Ends.{AreHanded, AreLostSame};
 ghost use Rattle.wtf_healer.specs.Words.{lost_in};
 
@@ -58,7 +58,7 @@ fn status_of(rt: &HostRuntime) -> u8
 
 /// The status where a device could not be opened.
 fn open_status(fault: OpenFault) -> u8
-    ensures { result ≡ open_status fault }
+    ensures { result ≡ heal_open_status fault }
 {
     match fault {
         OpenFault::Failed => NO_DIRECTORY,
@@ -106,7 +106,7 @@ fn run<S: SliceStore + Drop, K: Keeper + Drop>(
     opened: Result<Opened<S, K>, OpenFault>,
 ) -> u8
     ensures status { IsEnd result }
-    ensures unopened { IfErr opened (λ fault. result ≡ open_status fault) }
+    ensures unopened { IfErr opened (λ fault. result ≡ heal_open_status fault) }
 {
     let mut opened = match opened {
         Ok(opened) => opened,

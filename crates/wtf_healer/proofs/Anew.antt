@@ -20,9 +20,9 @@ use Rattle.wtf_meta.proofs.ListTests.{list_has-true}
 use Rattle.wtf_meta.proofs.Telling.{TellsOn, meaning_later, told_from, lists_in-from, lists_in-later, TellBytes-later}
 use Rattle.wtf_region.specs.Showing.{meaning_up}
 use Rattle.wtf_healer.specs.Live.{AreLeft, IsLeftList, IsLeftBase, IsLiveRegion}
-use Rattle.wtf_healer.specs.Regions.{IsShort, list_over}
+use Rattle.wtf_healer.specs.Regions.{IsCompacted, list_over}
 use Rattle.wtf_healer.specs.Restored.{AreKept}
-use Rattle.wtf_healer.specs.Runs.{IsUnder, IsWhole}
+use Rattle.wtf_healer.specs.Runs.{IsUnder, IsWholeRegion}
 use Rattle.wtf_healer.specs.Sparse.{is_sparse, is_sparse_base, has_sparse, is_to_heal}
 use Rattle.wtf_healer.proofs.Leaving.{left, means_up, is_up_told, entries_up, kept_origin, kept_entries}
 use Rattle.wtf_healer.proofs.Rereading.{IsReadAs, read_same, over_left, entries_on, under_later}
@@ -34,7 +34,7 @@ pub record IsAnew (b n : ℕ) (told now : Told) (lost : ℕ → Bool) (v x : Reg
   pub under : List Entry
   pub read : IsReadAs b told lost v.base under
   pub short : List Entry
-  pub short_is : IsShort v under short
+  pub short_is : IsCompacted v under short
   pub kept : AreKept lost told now short x.list
   pub whole : has_sparse lost n x.list ≡ false
   pub filed : All (EntryBytes are_filed) x.list
@@ -79,7 +79,7 @@ module _ (b n : ℕ) (told now : Told) (lost : ℕ → Bool) (v u : RegionValue)
       subst (All (EntryBytes (is_up_told lost told))) (sym (read_same b told lost s whole r es read)) (entries_up lost told r.list whole r.entries r.bytes)
 
   -- each byte of the compact list has a copy that is left
-  pub short_up : (under short : List Entry) → IsReadAs b told lost v.base under → IsShort v under short → All (EntryBytes (is_told told)) u.list
+  pub short_up : (under short : List Entry) → IsReadAs b told lost v.base under → IsCompacted v under short → All (EntryBytes (is_told told)) u.list
       → All (EntryBytes (is_up_told lost told)) short
   short_up under short read is bytes =
       let parts = All-append_parts (EntryBytes (is_told told)) h.under h.top (subst (All (EntryBytes (is_told told))) h.list bytes) in
@@ -109,7 +109,7 @@ module _ (b n : ℕ) (told now : Told) (lost : ℕ → Bool) (v u : RegionValue)
   }
 
 -- and no slice of it is sparse
-pub anew_whole : (b n : ℕ) (told now : Told) (lost : ℕ → Bool) (v x : RegionValue) → IsAnew b n told now lost v x → IsWhole b n now lost x
+pub anew_whole : (b n : ℕ) (told now : Told) (lost : ℕ → Bool) (v x : RegionValue) → IsAnew b n told now lost v x → IsWholeRegion b n now lost x
 anew_whole b n told now lost v x a = record {
   under = [];
   under_is = subst (λ (o : Option Spill). IsUnder b now lost o []) (sym a.base) refl;
@@ -179,7 +179,7 @@ module _ (b n : ℕ) (told now : Told) (lost : ℕ → Bool) (on : TellsOn told 
         }
 
     -- and none is sparse still
-    pub stays_whole : IsWhole b n now lost v
+    pub stays_whole : IsWholeRegion b n now lost v
     stays_whole = record {
       under = k.under;
       under_is = under_later b told now lost on v.base h.under k.under h.base_is k.read;

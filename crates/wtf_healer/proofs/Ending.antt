@@ -8,9 +8,9 @@ use Rattle.wtf_image.specs.declared.error.LoadError.{LoadError}
 use Rattle.wtf_image.specs.declared.error.LoadError.TheVariants as error
 use Rattle.wtf_healer.specs.declared.ends.Stop.{Stop}
 use Rattle.wtf_healer.specs.declared.ends.Stop.TheVariants as stop
-use Rattle.wtf_healer.specs.Ends.{RunSpan, SinkSpan, IsDone, IsEnd, IsUndone, IsToldStop, IsEndTold, IsOver}
+use Rattle.wtf_healer.specs.Ends.{RunSpan, SinkSpan, HasHealed, IsEnd, IsUndone, IsToldStop, IsEndTold, IsHealOver}
 use Rattle.wtf_healer.specs.Lines.{done_lines, fault_line, refusal_line}
-use Rattle.wtf_healer.specs.Runs.{IsStatus, IsQuiet, IsUnkept, IsUntouched, IsDue, HasWritten, Says}
+use Rattle.wtf_healer.specs.Runs.{IsHealStatus, IsQuiet, IsUnkept, IsUntouched, IsDue, WroteReport, SaysText}
 
 module _ {S : Type 0} (kind : StoreKind S) (names : Option (List ℕ)) (t : RunSpan S) where
   -- a refusal is not for want of memory
@@ -32,22 +32,22 @@ module _ {S O : Type 0} (kind : StoreKind S) (names : Option (List ℕ)) (t : Ru
   IsSo status r = IsEndTold kind names t s status r
 
   abbrev Over : ℕ → Type 0
-  Over status = IsOver kind names t s status
+  Over status = IsHealOver kind names t s status
 
-  pub over : {V : Type 0} (items : V → List ℕ) (status : ℕ) (r : Result V Stop) → IfOk r (λ v. IsDone kind names t (items v)) → IfErr r (IsEnd kind names t)
-      → IfOk r (λ v. Says (items v) 0 status (s.view s.old) (s.view s.new)) → IfErr r (IsToldStop s status) → Over status
+  pub over : {V : Type 0} (items : V → List ℕ) (status : ℕ) (r : Result V Stop) → IfOk r (λ v. HasHealed kind names t (items v)) → IfErr r (IsEnd kind names t)
+      → IfOk r (λ v. SaysText (items v) 0 status (s.view s.old) (s.view s.new)) → IfErr r (IsToldStop s status) → Over status
   over items status (Ok v) done none says nothing = record { ended = Ok (items v); told = (done, says) }
   over items status (Err why) none undone nothing says = record { ended = Err why; told = (undone, says) }
 
   -- ---- what each status tells
   abbrev pub AtZero : Type 0
-  AtZero = (lines : List ℕ) × IsDone kind names t lines × Says lines 0 0 (s.view s.old) (s.view s.new)
+  AtZero = (lines : List ℕ) × HasHealed kind names t lines × SaysText lines 0 0 (s.view s.old) (s.view s.new)
 
   abbrev pub AtSix : Type 0
-  AtSix = (why : LoadError) × IsUndone kind names t (stop.Refused why) × Says (refusal_line why) 6 6 (s.view s.old) (s.view s.new)
+  AtSix = (why : LoadError) × IsUndone kind names t (stop.Refused why) × SaysText (refusal_line why) 6 6 (s.view s.old) (s.view s.new)
 
   abbrev pub AtEleven : Type 0
-  AtEleven = (why : Fault) × IsUndone kind names t (stop.Unhealed why) × Says (fault_line why) 11 11 (s.view s.old) (s.view s.new)
+  AtEleven = (why : Fault) × IsUndone kind names t (stop.Unhealed why) × SaysText (fault_line why) 11 11 (s.view s.old) (s.view s.new)
 
   abbrev pub At : ℕ → Type 0
   At zero = AtZero
@@ -65,9 +65,10 @@ module _ {S O : Type 0} (kind : StoreKind S) (names : Option (List ℕ)) (t : Ru
   At (suc (suc (suc (suc (suc (suc (suc (suc (suc (suc (suc (suc n)))))))))))) = ⊥
 
   -- a text that was said
-  said : (text : List ℕ) (wanted status : ℕ) → Says text wanted status (s.view s.old) (s.view s.new) → (Says text wanted wanted (s.view s.old) (s.view s.new) → At wanted) → At status
+  said : (text : List ℕ) (wanted status : ℕ) → SaysText text wanted status (s.view s.old) (s.view s.new)
+      → (SaysText text wanted wanted (s.view s.old) (s.view s.new) → At wanted) → At status
   said text wanted status h whole = elim h.status_is [
-    | inl same ↦ subst At (sym same) (whole (subst (λ n. Says text wanted n (s.view s.old) (s.view s.new)) same h))
+    | inl same ↦ subst At (sym same) (whole (subst (λ n. SaysText text wanted n (s.view s.old) (s.view s.new)) same h))
     | inr failed ↦ subst At (sym failed) (h.cause failed)
   ]
 
@@ -92,10 +93,10 @@ module _ {S O : Type 0} (kind : StoreKind S) (names : Option (List ℕ)) (t : Ru
   at status h = at_end status h.ended h.told
 
   -- ---- statuses, and what is written
-  is_status : (text : List ℕ) (wanted status : ℕ) → IsStatus wanted → Says text wanted status (s.view s.old) (s.view s.new) → IsStatus status
-  is_status text wanted status one h = elim h.status_is [ inl same ↦ subst IsStatus (sym same) one | inr failed ↦ inr (inr (inl failed)) ]
+  is_status : (text : List ℕ) (wanted status : ℕ) → IsHealStatus wanted → SaysText text wanted status (s.view s.old) (s.view s.new) → IsHealStatus status
+  is_status text wanted status one h = elim h.status_is [ inl same ↦ subst IsHealStatus (sym same) one | inr failed ↦ inr (inr (inl failed)) ]
 
-  stop_status : (status : ℕ) (why : Stop) → IsToldStop s status why → IsStatus status
+  stop_status : (status : ℕ) (why : Stop) → IsToldStop s status why → IsHealStatus status
   stop_status status stop.Words told = inr (inl told.0)
   stop_status status stop.Load told = inr (inr (inr (inr (inr (inr (inl told.0))))))
   stop_status status (stop.Refused why) told = is_status (refusal_line why) 6 status (inr (inr (inr (inr (inl refl))))) told
@@ -104,11 +105,11 @@ module _ {S O : Type 0} (kind : StoreKind S) (names : Option (List ℕ)) (t : Ru
   stop_status status stop.Save told = inr (inr (inr (inl told.0)))
   stop_status status stop.Memory told = inr (inr (inr (inr (inr (inl told.0)))))
 
-  status_end : (status : ℕ) (r : Result (List ℕ) Stop) → IsSo status r → IsStatus status
+  status_end : (status : ℕ) (r : Result (List ℕ) Stop) → IsSo status r → IsHealStatus status
   status_end status (Ok lines) h = is_status lines 0 status (inl refl) h.1
   status_end status (Err why) h = stop_status status why h.1
 
-  pub status_of : (status : ℕ) → Over status → IsStatus status
+  pub status_of : (status : ℕ) → Over status → IsHealStatus status
   status_of status h = status_end status h.ended h.told
 
   -- nothing is written with these
@@ -139,16 +140,17 @@ module _ {S O : Type 0} (kind : StoreKind S) (names : Option (List ℕ)) (t : Ru
 
   -- ---- the text
   module _ (text : List ℕ) (taken : (s.view s.old).taken ≡ Some text) where
-    unwritten : (status : ℕ) → IsQuiet status → s.new ≡ s.old → HasWritten status text (s.view s.new).taken
+    unwritten : (status : ℕ) → IsQuiet status → s.new ≡ s.old → WroteReport status text (s.view s.new).taken
     unwritten status one same = inl (one, ap (λ o. (s.view o).taken) same ∙ taken)
 
-    written : (due : List ℕ) (wanted status : ℕ) → IsDue wanted due → Says due wanted status (s.view s.old) (s.view s.new) → HasWritten status text (s.view s.new).taken
+    written : (due : List ℕ) (wanted status : ℕ) → IsDue wanted due → SaysText due wanted status (s.view s.old) (s.view s.new)
+        → WroteReport status text (s.view s.new).taken
     written due wanted status is h = elim h.status_is [
       | inl same ↦ inr (inl (due, subst (λ n. IsDue n due) (sym same) is, h.whole same text taken))
       | inr failed ↦ inr (inr (failed, wanted, due, is, h.front failed text taken))
     ]
 
-    wrote_stop : (status : ℕ) (why : Stop) → IsEnd kind names t why → IsToldStop s status why → HasWritten status text (s.view s.new).taken
+    wrote_stop : (status : ℕ) (why : Stop) → IsEnd kind names t why → IsToldStop s status why → WroteReport status text (s.view s.new).taken
     wrote_stop status stop.Words end told = unwritten status (inl told.0) told.1
     wrote_stop status stop.Load end told = unwritten status (inr (inr (inr told.0))) told.1
     wrote_stop status (stop.Refused why) end told =
@@ -158,15 +160,15 @@ module _ {S O : Type 0} (kind : StoreKind S) (names : Option (List ℕ)) (t : Ru
     wrote_stop status stop.Save end told = unwritten status (inr (inl told.0)) told.1
     wrote_stop status stop.Memory end told = unwritten status (inr (inr (inl told.0))) told.1
 
-    wrote_end : (status : ℕ) (r : Result (List ℕ) Stop) → IsSo status r → HasWritten status text (s.view s.new).taken
+    wrote_end : (status : ℕ) (r : Result (List ℕ) Stop) → IsSo status r → WroteReport status text (s.view s.new).taken
     wrote_end status (Ok lines) h = (let due = due_of h.0 in written lines 0 status (inl (refl, due.0, due.1, due.2)) h.1)
       where
-        due_of : IsDone kind names t lines → (n : ℕ) × (m : ℕ) × (lines ≡ done_lines n m)
+        due_of : HasHealed kind names t lines → (n : ℕ) × (m : ℕ) × (lines ≡ done_lines n m)
         due_of (ks, image, given, inl none) = (0, 0, none.2)
         due_of (ks, image, given, inr some) = (length some.1.kept.healed.changes, some.1.kept.healed.bytes, some.1.kept.lines_are)
     wrote_end status (Err why) h = wrote_stop status why h.0 h.1
 
-    pub wrote : (status : ℕ) → Over status → HasWritten status text (s.view s.new).taken
+    pub wrote : (status : ℕ) → Over status → WroteReport status text (s.view s.new).taken
     wrote status h = wrote_end status h.ended h.told
 
   -- ---- what was not touched

@@ -1,6 +1,7 @@
 -- Why entries were not restored, and what calls leave of the stores, over a longer span.
 use Rattle.std.proofs.lemmas.Bool.{cond-true, lt-ltb}
-use Rattle.std.proofs.Common.{◌-◌, ◌++◌, nat_lt, ◌≡◌, ℕ, ◌+◌, ◌<◌, Bool, true, zero, suc, List, [], ◌∷◌, length, Some, refl, sym, ap, ◌∙◌, subst, arith, inl, inr}
+use Rattle.std.proofs.Common.{◌-◌, ◌++◌, nat_lt, ◌≡◌, ℕ, ◌+◌, ◌<◌, Bool, true, zero, suc, List, [], ◌∷◌, length, Some, refl, sym, ap, ◌∙◌, subst, arith, inl}
+use Rattle.std.proofs.Common.{inr}
 use Rattle.std.specs.Prelude.{slice_get}
 use Rattle.std.specs.List.{All, Contains}
 use Rattle.std.proofs.lemmas.List.Elements.{All-nil, All-cons}
@@ -50,7 +51,8 @@ module _ {S : Type 0} (kind : StoreKind S) where
   only_piece (b ∷ []) after p q e = absurd (let n : length (p ∷ []) ≡ length (b ∷ q ∷ after) = ap length e in omega (arith, n))
   only_piece (b ∷ x ∷ bs) after p q e = absurd (let n : length (p ∷ []) ≡ length (b ∷ x ∷ bs ++ q ∷ after) = ap length e in omega (arith, n))
 
-  pub piece_fault : (t : Span S) (e : Entry) (p : Piece) (pieces : List Piece) → p.part ≡ e.part → pieces ≡ p ∷ [] → (why : Fault) → IsShowFault kind t pieces why
+  pub piece_fault : (t : Span S) (e : Entry) (p : Piece) (pieces : List Piece) → p.part ≡ e.part → pieces ≡ p ∷ [] → (why : Fault)
+      → IsShowFault kind t pieces why
       → IsEntryFault kind t e why
   piece_fault t e p pieces part one (fault.Read k) h =
       let is : h.piece ≡ p = only_piece h.before h.after p h.piece (sym one ∙ h.split) in
@@ -92,7 +94,8 @@ pub is_there : {X : Type 0} (xs : List X) (i : ℕ) (x : X) → slice_get xs i �
 is_there xs i x is = (i, slice_get_within xs i x is, get_or_from_slice_get xs i x x is)
 
 module _ {S : Type 0} {kind : StoreKind S} (laws : KindLaws kind) where
-  lacks_since : (old mid new : Dev S) → GoesOn kind old mid [] → (part : Part) (k : ℕ) → LacksPart kind (between mid new) part k → LacksPart kind (between old new) part k
+  lacks_since : (old mid new : Dev S) → GoesOn kind old mid [] → (part : Part) (k : ℕ) → LacksPart kind (between mid new) part k
+      → LacksPart kind (between old new) part k
   lacks_since old mid new f part k h = record {
     slice = h.slice;
     held = h.held;

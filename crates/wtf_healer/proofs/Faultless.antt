@@ -1,5 +1,6 @@
 -- Where no store failed, a pass over an image of which enough is left does not end with a fault.
-use Rattle.std.proofs.Common.{◌≡◌, ◌≢◌, ◌⊎◌, ℕ, zero, suc, ◌+◌, ◌-◌, ◌<◌, ◌≤◌, ◌&&◌, ◌||◌, Bool, true, false, nat_lt, nat_le, nat_eq, cond, List, [], ◌∷◌, length, get_or, map, Option, None, Some, is_some, refl, sym, ap, ◌∙◌, subst, arith, inl, inr}
+use Rattle.std.proofs.Common.{◌≡◌, ◌≢◌, ◌⊎◌, ℕ, zero, suc, ◌+◌, ◌-◌, ◌<◌, ◌≤◌, ◌&&◌, ◌||◌, Bool, true, false, nat_lt, nat_le, nat_eq, cond, List, [], ◌∷◌}
+use Rattle.std.proofs.Common.{length, get_or, map, Option, None, Some, is_some, refl, sym, ap, ◌∙◌, subst, arith, inl, inr}
 use Rattle.std.specs.Prelude.{not, if◌then◌else◌}
 use Rattle.std.specs.List.{All, Contains, filter, list_all}
 use Rattle.std.proofs.lemmas.Bool.{and_from, or_cases, or_left, or_right, cond-false, lt-ltb, le-leb, eqb-true, false≢true}
@@ -44,14 +45,14 @@ use Rattle.wtf_region.specs.declared.dev.Dev.{Dev}
 use Rattle.wtf_region.specs.Devs.{GoesOn, stores, is_down_in, told_in, between}
 use Rattle.wtf_region.specs.Showing.{told_by_some}
 use Rattle.wtf_region.proofs.ListReads.{some_bytes}
-use Rattle.wtf_healer.specs.Bases.{part_lies, list_lies, lies_in}
+use Rattle.wtf_healer.specs.Bases.{part_lies, list_lies, list_lies_lent}
 use Rattle.wtf_healer.specs.Ends.{RunSpan, WasStopped}
-use Rattle.wtf_healer.specs.Live.{is_left, IsLeft, IsLeftPart, AreLeft, IsLeftList, IsLeftBase, IsLiveRegion, IsLiveMap, IsLiveTree}
-use Rattle.wtf_healer.specs.Regions.{LacksBase, LacksBytes, HasDamage, IsRegionFault, IsHealFault}
+use Rattle.wtf_healer.specs.Live.{is_left, HasCopiesLeft, IsLeftPart, AreLeft, IsLeftList, IsLeftBase, IsLiveRegion, IsLiveMap, IsLiveTree}
+use Rattle.wtf_healer.specs.Regions.{HealLacksBase, LacksBytes, HasDamage, IsRegionFault, IsHealFault}
 use Rattle.wtf_healer.specs.Restored.{NoneRose}
 use Rattle.wtf_healer.specs.Runs.{OnlyServersTell}
 use Rattle.wtf_healer.specs.Spared.{left_of}
-use Rattle.wtf_healer.specs.Words.{is_among}
+use Rattle.wtf_healer.specs.Words.{is_server_in}
 use Rattle.wtf_healer.specs.declared.ends.Stop.TheVariants as stop
 use Rattle.wtf_healer.proofs.Anew.{short_up}
 use Rattle.wtf_healer.proofs.Inward.{sizes_grow}
@@ -139,7 +140,7 @@ module _ (lost : ℕ → Bool) where
       ∙ no_places i ps (All-tail Lost p ps h)
 
   -- nothing is left of one
-  not_all : (s u : Slice) → IsLeft lost s u → All Lost (pointers_of s) → ⊥
+  not_all : (s u : Slice) → HasCopiesLeft lost s u → All Lost (pointers_of s) → ⊥
   not_all s u h all =
       let some = copies_of u.len u.extents in
       let none : pointers_of u ≡ [] = h.copies ∙ none_left (pointers_of s) all in
@@ -244,7 +245,7 @@ module _ {S : Type 0} {kind : StoreKind S} (laws : KindLaws kind) (before after 
       absurd (omega (arith, most, few, enough))
 
   -- the list of a base can be read
-  no_base : (base : Option Spill) (under : List Entry) (k : ℕ) → IsLeftBase b told lost base under → LacksBase kind (between before after) base k → ⊥
+  no_base : (base : Option Spill) (under : List Entry) (k : ℕ) → IsLeftBase b told lost base under → HealLacksBase kind (between before after) base k → ⊥
   no_base None under k h lacks = absurd lacks
   no_base (Some s) under k h lacks =
       let r : IsLeftList b told lost s.slice h.0 = h.1 in not_all lost s.slice r.slice r.left (all_lost s.slice k lacks)
@@ -270,8 +271,8 @@ module _ {S : Type 0} {kind : StoreKind S} (laws : KindLaws kind) (before after 
 
   entry_lies : (f : Entry) → EntryBytes (is_told told) f → EntryLies lost before.settings.servers (size_in kind (stores after)) known f
   entry_lies f bytes u is =
-      let len = held_len f.len f.part f.held u is in
-      lies_told u (λ i below. subst (λ (p : Part). is_told told (part_origin p i) ≡ true) is (bytes i (omega (arith, below, len))))
+      let len = held_len f.len f.part f.held u is
+      in lies_told u (λ i below. subst (λ (p : Part). is_told told (part_origin p i) ≡ true) is (bytes i (omega (arith, below, len))))
 
   -- so the list that a base has is taken for one
   no_damage : (base : Option Spill) (under : List Entry) (k : ℕ) → IsLeftBase b told lost base under → HasDamage kind before after base k → ⊥
@@ -283,11 +284,11 @@ module _ {S : Type 0} {kind : StoreKind S} (laws : KindLaws kind) (before after 
       let same : bad.bytes ≡ was.0 = fetched_left laws bad.read bad.whole was.0 was.1 in
       let is : decoded after.settings.region bad.bytes ≡ Some r.list =
       ap (λ (st : Settings). decoded st.region bad.bytes) goes.settings ∙ ap (decoded b) same ∙ was.2 in
-      let outside : lies_in kind after r.list ≡ false = bad.bad r.list is in
+      let outside : list_lies_lent kind after r.list ≡ false = bad.bad r.list is in
       let inside : list_lies lost before.settings.servers (size_in kind (stores after)) r.list ≡ true =
       list_lies_in lost before.settings.servers (size_in kind (stores after)) known r.list whole r.entries
       (All-weaker (EntryBytes (is_told told)) (EntryLies lost before.settings.servers (size_in kind (stores after)) known) entry_lies whole r.bytes) in
-      let here : lies_in kind after r.list ≡ true =
+      let here : list_lies_lent kind after r.list ≡ true =
       ap (λ (f : ℕ → Bool). list_lies f after.settings.servers (size_in kind (stores after)) r.list) (down_same laws goes)
       ∙ ap (λ (st : Settings). list_lies lost st.servers (size_in kind (stores after)) r.list) goes.settings ∙ inside in
       false≢true (sym outside ∙ here)
@@ -321,9 +322,9 @@ module _ {S : Type 0} {kind : StoreKind S} (laws : KindLaws kind) (before after 
   ]
 
 -- a server that is one of these has what all of these have
-among_below : (n : ℕ) (ks : List ℕ) → All (λ k. k < n) ks → (k : ℕ) → is_among ks k ≡ true → k < n
+among_below : (n : ℕ) (ks : List ℕ) → All (λ k. k < n) ks → (k : ℕ) → is_server_in ks k ≡ true → k < n
 among_below n [] all k is = absurd (cc)
-among_below n (j ∷ ks) all k is = elim (or_cases (nat_eq k j) (is_among ks k) is) [
+among_below n (j ∷ ks) all k is = elim (or_cases (nat_eq k j) (is_server_in ks k) is) [
   | inl here ↦ let same = eqb-true k j here in let first : j < n = All-head (λ k. k < n) j ks all in omega (arith, same, first)
   | inr later ↦ among_below n ks (All-tail (λ k. k < n) j ks all) k later
 ]
@@ -331,7 +332,7 @@ among_below n (j ∷ ks) all k is = elim (or_cases (nat_eq k j) (is_among ks k) 
 -- A run does not end with a fault where no store failed, the image has a tree that is left, and no store past the image's servers
 -- tells a byte.
 pub no_fault : {S : Type 0} {kind : StoreKind S} → KindLaws kind → (ks bytes : List ℕ) (run : RunSpan S) (why : Fault)
-    → WasStopped kind ks bytes run (stop.Unhealed why) → (t : Tree) → IsLiveTree (byte_at kind run.old) (is_among ks) bytes t
+    → WasStopped kind ks bytes run (stop.Unhealed why) → (t : Tree) → IsLiveTree (byte_at kind run.old) (is_server_in ks) bytes t
     → OnlyServersTell (byte_at kind run.old) bytes → ((k : ℕ) → HasRisen kind run.old run.new k → ⊥) → ⊥
 no_fault {S = S} {kind = kind} laws ks bytes run why stopped t tree only none =
     let replicas : Replicas = stopped.began.replicas in
@@ -347,10 +348,10 @@ no_fault {S = S} {kind = kind} laws ks bytes run why stopped t tree only none =
     let new : stores after ≡ run.new = passed.after_is.stores_are in
     let settings : before.settings ≡ l.settings = passed.before_is.settings_are in
     let servers : before.settings.servers ≡ l.settings.servers = ap (λ (s : Settings). s.servers) settings in
-    let same : lost ≡ is_among ks = λ i k. (ap (λ (r : Replicas). is_down r k) passed.before_is.replicas_are ∙ stopped.began.down k) i in
+    let same : lost ≡ is_server_in ks = λ i k. (ap (λ (r : Replicas). is_down r k) passed.before_is.replicas_are ∙ stopped.began.down k) i in
     let here : IsLiveTree told lost bytes t = subst (λ (f : ℕ → Bool). IsLiveTree told f bytes t) (sym same)
-    (subst (λ sh. IsLiveTree (byte_at kind sh) (is_among ks) bytes t) (sym old) tree) in
-    let live : IsLiveLoad told lost l t = live_load told lost (is_among ks) (size_in kind run.old) bytes l t load here in
+    (subst (λ sh. IsLiveTree (byte_at kind sh) (is_server_in ks) bytes t) (sym old) tree) in
+    let live : IsLiveLoad told lost l t = live_load told lost (is_server_in ks) (size_in kind run.old) bytes l t load here in
     let region : l.settings.region ≡ before.settings.region = sym (ap (λ (s : Settings). s.region) settings) in
     let left = subst (λ r. IsLiveMap r told lost (metadata_at l.kv l.kv.number) live.live) region live.is_live in
     let stands = live.stands l.next_tx (omega arith) in
@@ -365,5 +366,5 @@ no_fault {S = S} {kind = kind} laws ks bytes run why stopped t tree only none =
     omega (arith, at, servers, load.settings.servers) in
     let enough : before.settings.replicas ≤ left_of lost before.settings.servers =
     subst (λ (f : ℕ → Bool). before.settings.replicas ≤ left_of f before.settings.servers) (sym same)
-    (subst (λ (s : Settings). s.replicas ≤ left_of (is_among ks) s.servers) (sym settings) spared.left) in
-    no_heal_fault laws before after passed.goes risen known within enough (metadata_at l.kv l.kv.number) live.live left named why stopped.cause.0 passed.did
+    (subst (λ (s : Settings). s.replicas ≤ left_of (is_server_in ks) s.servers) (sym settings) spared.left)
+    in no_heal_fault laws before after passed.goes risen known within enough (metadata_at l.kv l.kv.number) live.live left named why stopped.cause.0 passed.did

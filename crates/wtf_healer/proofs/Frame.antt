@@ -52,13 +52,17 @@ module _ (b : ℕ) (told now : Told) (w v : Map) (same : SameBodies b told now w
   node_same : (x : Option Value) (o : Option TreeNode) → NodeAt b told w x o → NodeAt b now v x o
   node_same None None at = tt
   node_same None (Some Dir) at = absurd at
-  node_same None (Some (File bytes)) at = absurd at
+  node_same None (Some (File paths bytes)) at = absurd at
   node_same (Some (value.Node Folder)) None at = absurd at
   node_same (Some (value.Node Folder)) (Some Dir) at = tt
-  node_same (Some (value.Node Folder)) (Some (File bytes)) at = absurd at
+  node_same (Some (value.Node Folder)) (Some (File paths bytes)) at = absurd at
   node_same (Some (value.Node (FileNode i))) None at = absurd at
   node_same (Some (value.Node (FileNode i))) (Some Dir) at = absurd at
-  node_same (Some (value.Node (FileNode i))) (Some (File bytes)) at = body_same i bytes at
+  node_same (Some (value.Node (FileNode i))) (Some (File paths bytes)) at = record {
+    body = body_same i bytes at.body;
+    lead = λ q has. same.paths q ∙ at.lead q has;
+    all = λ q to. at.all q (sym (same.paths q) ∙ to);
+  }
   node_same (Some (value.Names s)) o at = absurd at
   node_same (Some (value.Last r)) o at = absurd at
   node_same (Some (value.Region g)) o at = absurd at

@@ -17,7 +17,7 @@ use Rattle.wtf_region.specs.declared.dev.Dev.{Dev}
 use Rattle.wtf_region.specs.Devs.{IsSoundDev, GoesOn, stores, is_down_in, told_in, between}
 use Rattle.wtf_region.specs.Showing.{OnlyRead}
 use Rattle.wtf_healer.specs.Bases.{IsBaseRead, inside_left}
-use Rattle.wtf_healer.specs.Regions.{IsShort, IsHealed, IsRegionFault}
+use Rattle.wtf_healer.specs.Regions.{IsCompacted, IsHealed, IsRegionFault}
 use Rattle.wtf_healer.specs.Restored.{TellUp, AreKept, Grew, AreRestored, IsRestoreFault}
 use Rattle.wtf_healer.specs.Sparse.{is_to_heal, has_sparse, sparse_bytes}
 use Rattle.wtf_healer.specs.declared.entries.Restored.{Restored}
@@ -31,7 +31,7 @@ base_inside kind old new None es h = subst (All (EntryBytes (inside_left kind ne
 base_inside kind old new (Some s) es h = h.inside
 
 -- a region that is at most so long has few entries in its compact list
-pub few_entries : (v : RegionValue) (under es : List Entry) (settings : Settings) → v.end ≤ settings.region → IsShort v under es → length es < 2 ^ 31
+pub few_entries : (v : RegionValue) (under es : List Entry) (settings : Settings) → v.end ≤ settings.region → IsCompacted v under es → length es < 2 ^ 31
 few_entries v under es settings size h =
     let count = compact_count v.end es h.compact h.within in
     let most : settings.region ≤ 1048576 = settings.limits.6 in
@@ -41,7 +41,8 @@ module _ {S : Type 0} {kind : StoreKind S} (laws : KindLaws kind) where
   kept_since : (down : ℕ → Bool) (old mid new : Dev S) → GoesOn kind old mid [] → (es fs : List Entry)
       → AreKept down (told_in kind mid) (told_in kind new) es fs → AreKept down (told_in kind old) (told_in kind new) es fs
   kept_since down old mid new f [] [] h = tt
-  kept_since down old mid new f (e ∷ es) (x ∷ fs) h = (keeps_since laws down (stores old) (stores mid) (stores new) f.each e x h.0, kept_since down old mid new f es fs h.1)
+  kept_since down old mid new f (e ∷ es) (x ∷ fs) h =
+      (keeps_since laws down (stores old) (stores mid) (stores new) f.each e x h.0, kept_since down old mid new f es fs h.1)
   kept_since down old mid new f [] (x ∷ fs) h = absurd h
   kept_since down old mid new f (e ∷ es) [] h = absurd h
 
@@ -73,14 +74,15 @@ module _ {S : Type 0} {kind : StoreKind S} (laws : KindLaws kind) where
   pub read_grew : (old mid : Dev S) → GoesOn kind old mid [] → OnlyRead kind (between old mid) → Grew kind old mid 0
   read_grew old mid f r = grew_since old mid mid f r 0 (grew_none laws mid)
 
-  pub read_later : (old mid new : Dev S) → IsSoundDev kind mid → GoesOn kind mid new [] → (base : Option Spill) (es : List Entry) → IsBaseRead kind old mid base es
+  pub read_later : (old mid new : Dev S) → IsSoundDev kind mid → GoesOn kind mid new [] → (base : Option Spill) (es : List Entry)
+      → IsBaseRead kind old mid base es
       → IsBaseRead kind old new base es
   read_later old mid new sound g None es h = h
   read_later old mid new sound g (Some s) es h = record { decodes = h.decodes; inside = entries_later laws mid new sound g es h.inside }
 
   -- or it was healed
   pub healed_of : (old mid new : Dev S) → GoesOn kind old mid [] → GoesOn kind mid new [] → (v : RegionValue) (under short : List Entry)
-      → IsBaseRead kind old mid v.base under → is_to_heal (is_down_in mid) mid.settings.replicas under v ≡ true → IsShort v under short
+      → IsBaseRead kind old mid v.base under → is_to_heal (is_down_in mid) mid.settings.replicas under v ≡ true → IsCompacted v under short
       → (made : Restored) → AreRestored kind mid new short made.list made.bytes → IsHealed kind old new v made
   healed_of old mid new f g v under short read sparse short_is made restored = record {
     under = under;
@@ -93,7 +95,8 @@ module _ {S : Type 0} {kind : StoreKind S} (laws : KindLaws kind) where
   }
 
   pub restore_fault : (old mid new : Dev S) → GoesOn kind old mid [] → GoesOn kind mid new [] → (v : RegionValue) (under short : List Entry)
-      → IsBaseRead kind old mid v.base under → IsShort v under short → (why : Fault) → IsRestoreFault kind mid new short why → IsRegionFault kind old new v why
+      → IsBaseRead kind old mid v.base under → IsCompacted v under short → (why : Fault) → IsRestoreFault kind mid new short why
+      → IsRegionFault kind old new v why
   restore_fault old mid new f g v under short read is (fault.Read k) h = inr (record {
     under = under;
     read = read_later old mid new f.sound g v.base under read;

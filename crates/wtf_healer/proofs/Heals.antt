@@ -40,9 +40,9 @@ use Rattle.wtf_healer.specs.Ends.{RunSpan, WasKept, WasHealed}
 use Rattle.wtf_healer.specs.Live.{IsLiveMap, IsLiveTree}
 use Rattle.wtf_healer.specs.Regions.{AreHealed, CanHeal, change_of}
 use Rattle.wtf_healer.specs.Restored.{TellUp}
-use Rattle.wtf_healer.specs.Runs.{SameSettings, IsHealedImage, IsWholeImage, IsWhole, AreToHeal, HasRoom, AreTelling, Heals}
+use Rattle.wtf_healer.specs.Runs.{SameSettings, IsHealedImage, IsWholeImage, IsWholeRegion, AreToHeal, HasNextNumber, AreTelling, Heals}
 use Rattle.wtf_healer.specs.Steps.{CanHealOver}
-use Rattle.wtf_healer.specs.Words.{is_among}
+use Rattle.wtf_healer.specs.Words.{is_server_in}
 use Rattle.wtf_healer.specs.declared.regions.Healed.{Healed}
 use Rattle.wtf_healer.proofs.Mended.{later_on, mended, region_inside, to_heal, healed_grew}
 use Rattle.wtf_healer.proofs.Mending.{AreMended, inode_aside, mended_live, mended_stands, mended_live_stands, mended_whole}
@@ -114,7 +114,7 @@ module _ {S : Type 0} {kind : StoreKind S} (laws : KindLaws kind) (replicas : Re
   map_is = p.put.map ∙ ap (λ cs. with cs w) healed.changes
 
   module _ (tells : TellUp kind lost (stores before)) (can : CanHeal kind before w) (out : ℕ → Bool) (size : ℕ → ℕ → ℕ) (bytes : List ℕ)
-      (load : IsLoadWithout out size bytes l) (room : HasRoom bytes) (t : Tree) (tree : IsLiveTree told lost bytes t) where
+      (load : IsLoadWithout out size bytes l) (room : HasNextNumber bytes) (t : Tree) (tree : IsLiveTree told lost bytes t) where
     live : IsLiveLoad told lost l t
     live = live_load told lost out size bytes l t load tree
 
@@ -236,8 +236,8 @@ module _ {S : Type 0} {kind : StoreKind S} (laws : KindLaws kind) (replicas : Re
       text = kept.text;
       says = said;
       whole = λ i r x is.
-          subst (λ c. IsWhole kept.rows.header.region c later lost x) (sym kept_copies)
-          (subst (λ c. IsWhole c n later lost x) (sym kept_region)
+          subst (λ c. IsWholeRegion kept.rows.header.region c later lost x) (sym kept_copies)
+          (subst (λ c. IsWholeRegion c n later lost x) (sym kept_region)
           (mended_whole b n told later lost on w live.live healed.puts are_mended left i r x (sym (ap (λ (m : Map). m (Region i r)) map_is) ∙ is)));
     }
 
@@ -273,7 +273,7 @@ module _ {S : Type 0} {kind : StoreKind S} (laws : KindLaws kind) (replicas : Re
 
 -- what a run promises that ended with status 0
 pub heals : {S : Type 0} {kind : StoreKind S} → KindLaws kind → (ks bytes : List ℕ) (run : RunSpan S) (lines : List ℕ) → WasHealed kind ks bytes run lines
-    → AreTelling kind ks run.old run.keeper bytes → HasRoom bytes → (t : Tree) → IsLiveTree (byte_at kind run.old) (is_among ks) bytes t
+    → AreTelling kind ks run.old run.keeper bytes → HasNextNumber bytes → (t : Tree) → IsLiveTree (byte_at kind run.old) (is_server_in ks) bytes t
     → (text : List ℕ) (written : Option (List ℕ)) → written ≡ Some (text ++ lines) → Heals kind ks run.old run.new run.keeper_now t bytes text written
 heals {S = S} {kind = kind} laws ks bytes run lines done telling room t tree text written wrote =
     let replicas : Replicas = done.began.replicas in
@@ -285,26 +285,26 @@ heals {S = S} {kind = kind} laws ks bytes run lines done telling room t tree tex
     let later : Told = byte_at kind run.new in
     let lost : ℕ → Bool = is_down_in before in
     let shelf : stores before ≡ run.old = passed.before_is.stores_are in
-    let same : lost ≡ is_among ks = λ i k. (ap (λ (r : Replicas). is_down r k) passed.before_is.replicas_are ∙ done.began.down k) i in
+    let same : lost ≡ is_server_in ks = λ i k. (ap (λ (r : Replicas). is_down r k) passed.before_is.replicas_are ∙ done.began.down k) i in
     let tells : TellUp kind lost (stores before) = subst (λ (f : ℕ → Bool). TellUp kind f (stores before)) (sym same)
-    (subst (λ sh. TellUp kind (is_among ks) sh) (sym shelf) telling.stores_tell) in
+    (subst (λ sh. TellUp kind (is_server_in ks) sh) (sym shelf) telling.stores_tell) in
     let here : IsLiveTree (told_in kind before) lost bytes t = subst (λ (f : ℕ → Bool). IsLiveTree (told_in kind before) f bytes t) (sym same)
-    (subst (λ sh. IsLiveTree (byte_at kind sh) (is_among ks) bytes t) (sym shelf) tree) in
+    (subst (λ sh. IsLiveTree (byte_at kind sh) (is_server_in ks) bytes t) (sym shelf) tree) in
     let can : CanHealOver kind run.old replicas l.settings (metadata_at l.kv l.kv.number) =
-    can_heal kind run.old replicas (is_among ks) bytes l (λ k below. done.began.down k) load in
+    can_heal kind run.old replicas (is_server_in ks) bytes l (λ k below. done.began.down k) load in
     let able = can before passed.before_is in
     let size : ℕ → ℕ → ℕ = size_in kind run.old in
     record {
       kept = p.image;
       held = p.held telling.keeper_tells;
       image = subst (λ (f : ℕ → Bool). IsHealedImage later (size_in kind run.new) f t bytes p.image) same
-          (healed_image laws replicas l run lines p tells able (is_among ks) size bytes load room t here);
+          (healed_image laws replicas l run lines p tells able (is_server_in ks) size bytes load room t here);
       regions = length p.healed.changes;
       anew = p.healed.bytes;
       counted = subst (λ (f : ℕ → Bool). AreToHeal (byte_at kind run.old) f bytes (length p.healed.changes) p.healed.bytes) same
           (subst (λ sh. AreToHeal (byte_at kind sh) lost bytes (length p.healed.changes) p.healed.bytes) shelf
-          (healed_counted laws replicas l run lines p tells able (is_among ks) size bytes load room t here));
+          (healed_counted laws replicas l run lines p tells able (is_server_in ks) size bytes load room t here));
       wrote = wrote ∙ ap (λ (line : List ℕ). Some (text ++ line)) p.lines_are;
-      installs = healed_installs laws replicas l run lines p tells able (is_among ks) size bytes load room t here;
-      grew = healed_growth laws replicas l run lines p tells able (is_among ks) size bytes load room t here;
+      installs = healed_installs laws replicas l run lines p tells able (is_server_in ks) size bytes load room t here;
+      grew = healed_growth laws replicas l run lines p tells able (is_server_in ks) size bytes load room t here;
     }

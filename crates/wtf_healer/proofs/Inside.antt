@@ -1,5 +1,6 @@
 -- What an image names that was loaded without lost servers can be healed.
-use Rattle.std.proofs.Common.{◌≡◌, ℕ, Bool, ◌+◌, ◌<◌, ◌≤◌, true, cond, nat_lt, nat_le, ◌&&◌, ◌||◌, List, [], ◌∷◌, map, Option, None, Some, refl, sym, ap, subst, ◌∙◌}
+use Rattle.std.proofs.Common.{◌≡◌, ℕ, Bool, ◌+◌, ◌<◌, ◌≤◌, true, cond, nat_lt, nat_le, ◌&&◌, ◌||◌, List, [], ◌∷◌, map, Option, None, Some, refl, sym, ap, subst}
+use Rattle.std.proofs.Common.{◌∙◌}
 use Rattle.std.proofs.Common.{arith, inl, inr}
 use Rattle.std.specs.Prelude.{⊤, ◌==◌}
 use Rattle.std.specs.List.{All, AllByRecursion, list_all, list_any, flat_map}
@@ -40,7 +41,8 @@ use Rattle.wtf_meta.specs.Bytes.{PartBytes, EntryBytes, BaseBytes, RegionBytes, 
 use Rattle.wtf_image.specs.Rows.{EntryRow, RegionRow, FileRow, ImageRows, part_row, base_row, entry_rows}
 use Rattle.wtf_image.specs.Lookups.{Plain, NodeIs, NamesAre, LastIs, RegionIs, plain, plain_region, names_of_node, names_under, node_at, last_at, place_cmp}
 use Rattle.wtf_image.specs.Lookups.{region_entry, region_entries, region_at, row_at}
-use Rattle.wtf_image.specs.Rules.{is_good_file, is_good_region, is_last, size_in, is_file_inside_without, is_region_inside_without, is_base_inside_without, is_part_inside_without, lies_inside_without}
+use Rattle.wtf_image.specs.Rules.{is_good_file, is_good_region, is_last, size_in, is_file_inside_without, is_region_inside_without, is_base_inside_without}
+use Rattle.wtf_image.specs.Rules.{is_part_inside_without, lies_inside_without}
 use Rattle.wtf_image.specs.Rules as rules
 use Rattle.wtf_image.specs.declared.loads.Loaded.{Loaded}
 use Rattle.wtf_image.specs.Outcome.{IsLoadWithout}

@@ -1,5 +1,6 @@
 -- What is left of lists while servers are lost, and what their bytes mean by the copies that are left.
-use Rattle.std.proofs.Common.{◌≡◌, ℕ, ◌+◌, ◌-◌, ◌<◌, ◌&&◌, ◌++◌, Bool, true, false, nat_le, nat_lt, cond, List, [], ◌∷◌, length, map, Option, Some, None, is_some, refl, sym, ap, ◌∙◌, subst, arith, inl, inr}
+use Rattle.std.proofs.Common.{◌≡◌, ℕ, ◌+◌, ◌-◌, ◌<◌, ◌&&◌, ◌++◌, Bool, true, false, nat_le, nat_lt, cond, List, [], ◌∷◌, length, map, Option, Some, None}
+use Rattle.std.proofs.Common.{is_some, refl, sym, ap, ◌∙◌, subst, arith, inl, inr}
 use Rattle.std.specs.Prelude.{not}
 use Rattle.std.specs.List.{All, filter}
 use Rattle.std.proofs.lemmas.Bool.{cases_lt, and_parts, leb-true, ltb-true}
@@ -21,8 +22,8 @@ use Rattle.wtf_meta.specs.Bytes.{EntryBytes}
 use Rattle.wtf_meta.specs.Contents.{Told, is_told}
 use Rattle.wtf_meta.proofs.Telling.{told_byte, told_from}
 use Rattle.wtf_region.specs.Showing.{meaning_up, told_by_some}
-use Rattle.wtf_healer.specs.Live.{is_left, IsLeft, IsLeftPart, IsLeftEntry, AreLeft}
-use Rattle.wtf_healer.specs.Restored.{Keeps, AreKept}
+use Rattle.wtf_healer.specs.Live.{is_left, HasCopiesLeft, IsLeftPart, IsLeftEntry, AreLeft}
+use Rattle.wtf_healer.specs.Restored.{KeepsToldBytes, AreKept}
 use Rattle.wtf_healer.proofs.Restoring.{copies_of}
 
 -- ---- places
@@ -45,7 +46,7 @@ module _ (lost : ℕ → Bool) where
       ≡ cond b (place_in i p ∷ left (map (place_in i) ps)) (left (map (place_in i) ps)))
       [ true ↦ ap (λ (qs : List Place). place_in i p ∷ qs) (filter_places i ps) | false ↦ filter_places i ps ]
 
-  pub left_slice : (s u : Slice) → IsLeft lost s u → (i : ℕ) → places_of u i ≡ left (places_of s i)
+  pub left_slice : (s u : Slice) → HasCopiesLeft lost s u → (i : ℕ) → places_of u i ≡ left (places_of s i)
   left_slice s u h i = ap (map (place_in i)) h.copies ∙ filter_places i (pointers_of s)
 
   some_places : (u : Slice) (i : ℕ) → places_of u i ≡ [] → ⊥
@@ -155,18 +156,19 @@ module _ (lost : ℕ → Bool) where
 
   -- ---- lists that were restored
 
-  kept_covers : (told now : Told) (e f : Entry) → Keeps lost told now e f → (x : ℕ) → covers f x ≡ covers e x
+  kept_covers : (told now : Told) (e f : Entry) → KeepsToldBytes lost told now e f → (x : ℕ) → covers f x ≡ covers e x
   kept_covers told now e f h x =
       ap (λ n. nat_le n x && nat_lt x (n + f.len)) h.placed.off ∙ ap (λ n. nat_le e.off x && nat_lt x (e.off + n)) h.placed.len
 
   abbrev Tells : Told → Told → List Place → List Place → Type 0
   Tells told now qs ws = (byte : ℕ) → meaning_up lost told qs ≡ Some byte → meaning now ws ≡ Some byte
 
-  kept_over : (told now : Told) (e f : Entry) → Keeps lost told now e f → (below below' : List Place) → Tells told now below below' → (x : ℕ)
+  kept_over : (told now : Told) (e f : Entry) → KeepsToldBytes lost told now e f → (below below' : List Place) → Tells told now below below' → (x : ℕ)
       → Tells told now (over e x below) (over f x below')
   kept_over told now e f h below below' tells x byte up =
       let same : over f x below' ≡ cond (covers e x) (part_origin f.part (x - e.off)) below' =
-      ap (λ b. cond b (part_origin f.part (x - f.off)) below') (kept_covers told now e f h x) ∙ ap (λ n. cond (covers e x) (part_origin f.part (x - n)) below') h.placed.off in
+      ap (λ b. cond b (part_origin f.part (x - f.off)) below') (kept_covers told now e f h x)
+      ∙ ap (λ n. cond (covers e x) (part_origin f.part (x - n)) below') h.placed.off in
       ap (meaning now) same ∙ inner (covers e x) refl up
     where
       covered : (d : Entry) (y : ℕ) → covers d y ≡ true → y - d.off < d.len
@@ -191,7 +193,7 @@ module _ (lost : ℕ → Bool) where
       → meaning now (origin fs x) ≡ Some byte
   kept_origin told now es fs h x byte up = kept_from told now es fs h [] [] (λ n is. is) x byte up
 
-  kept_entry : (told now : Told) (e f : Entry) → Keeps lost told now e f → EntryBytes (is_up_told told) e → EntryBytes (is_told now) f
+  kept_entry : (told now : Told) (e f : Entry) → KeepsToldBytes lost told now e f → EntryBytes (is_up_told told) e → EntryBytes (is_told now) f
   kept_entry told now e f h bytes i below =
       let within : i < e.len = omega (arith, below, h.placed.len) in
       some_of (meaning_up lost told (part_origin e.part i)) refl (bytes i within)
@@ -200,7 +202,8 @@ module _ (lost : ℕ → Bool) where
       some_of None is some = absurd (cc)
       some_of (Some byte) is some = told_from now (part_origin f.part i) byte (h.bytes i byte (omega (arith, below, h.placed.len)) is)
 
-  pub kept_entries : (told now : Told) (es fs : List Entry) → AreKept lost told now es fs → All (EntryBytes (is_up_told told)) es → All (EntryBytes (is_told now)) fs
+  pub kept_entries : (told now : Told) (es fs : List Entry) → AreKept lost told now es fs → All (EntryBytes (is_up_told told)) es
+      → All (EntryBytes (is_told now)) fs
   kept_entries told now [] [] h bytes = All-nil (EntryBytes (is_told now))
   kept_entries told now (e ∷ es) (f ∷ fs) h bytes =
       All-cons (EntryBytes (is_told now)) f fs (kept_entry told now e f h.0 (All-head (EntryBytes (is_up_told told)) e es bytes))

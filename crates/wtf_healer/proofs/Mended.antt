@@ -1,5 +1,6 @@
 -- What a whole pass leaves: the image of the tree that was left, of which no slice is sparse.
-use Rattle.std.proofs.Common.{◌≡◌, ◌≢◌, ℕ, ◌+◌, ◌*◌, ◌<◌, ◌≤◌, ◌||◌, Bool, List, [], ◌∷◌, length, get_or, map, Option, None, Some, refl, sym, ap, ◌∙◌, subst, arith, inl, inr}
+use Rattle.std.proofs.Common.{◌≡◌, ◌≢◌, ℕ, ◌+◌, ◌*◌, ◌<◌, ◌≤◌, ◌||◌, Bool, List, [], ◌∷◌, length, get_or, map, Option, None, Some, refl, sym, ap, ◌∙◌, subst}
+use Rattle.std.proofs.Common.{arith, inl, inr}
 use Rattle.std.specs.List.{All, AllPairs, Contains, list_all, sum_by}
 use Rattle.std.specs.Option.{option_map}
 use Rattle.std.proofs.lemmas.Bool.{or_parts}
@@ -38,9 +39,9 @@ use Rattle.wtf_region.specs.Devs.{GoesOn, stores, is_down_in, told_in}
 use Rattle.wtf_region.proofs.Frames.{tells_on}
 use Rattle.wtf_healer.specs.Bases.{IsBaseRead, is_place_left, inside_left}
 use Rattle.wtf_healer.specs.Live.{IsLiveMap}
-use Rattle.wtf_healer.specs.Regions.{CanHeal, IsPutFor, IsSound, AreHealed, Put, change_of}
+use Rattle.wtf_healer.specs.Regions.{CanHeal, IsPutFor, HasNoSparse, AreHealed, Put, change_of}
 use Rattle.wtf_healer.specs.Restored.{TellUp, AreKept}
-use Rattle.wtf_healer.specs.Runs.{IsWhole, Work, IsWork, AreToHeal}
+use Rattle.wtf_healer.specs.Runs.{IsWholeRegion, Work, IsWork, AreToHeal}
 use Rattle.wtf_healer.specs.Sparse.{is_sparse_base, has_sparse}
 use Rattle.wtf_healer.specs.declared.regions.Healed.{Healed}
 use Rattle.wtf_healer.proofs.Anew.{IsUnlost}
@@ -118,7 +119,7 @@ module _ {S : Type 0} {kind : StoreKind S} (laws : KindLaws kind) (before after 
         bytes = f.put.bytes_are ∙ r.bytes;
       }
 
-  unlost : (v : RegionValue) → IsSound kind before after v → IsUnlost b n told lost v
+  unlost : (v : RegionValue) → HasNoSparse kind before after v → IsUnlost b n told lost v
   unlost v s = record { under = s.under; read = read_as kind before after v.base s.under s.read; whole = s.whole }
 
   pub mended : TellUp kind lost (stores before) → AreMended b n told later lost w h.puts
@@ -152,7 +153,7 @@ module _ {S : Type 0} {kind : StoreKind S} (laws : KindLaws kind) (before after 
   grown k f = let one = sizes_grow laws goes.each k f in let two = sizes_grow laws follows k f in omega (arith, one, two)
 
   stays_inside : (o : Option Value) → ValueBytes (inside_left kind before) any_slice o
-      → ((v : RegionValue) → o ≡ Some (value.Region v) → IsSound kind before after v)
+      → ((v : RegionValue) → o ≡ Some (value.Region v) → HasNoSparse kind before after v)
       → Inside o
   stays_inside None k sound = tt
   stays_inside (Some (value.Node x)) k sound = tt
@@ -195,7 +196,8 @@ module _ {S : Type 0} {kind : StoreKind S} (laws : KindLaws kind) (before after 
           bytes_are = f.put.bytes_are ∙ f.healed.restored.bytes;
         }
 
-    whole_is : (i : InodeId) (r : ℕ) (v : RegionValue) → w (Region i r) ≡ Some (value.Region v) → IsSound kind before after v → IsWhole b n told lost v
+    whole_is : (i : InodeId) (r : ℕ) (v : RegionValue) → w (Region i r) ≡ Some (value.Region v) → HasNoSparse kind before after v
+        → IsWholeRegion b n told lost v
     whole_is i r v is s =
         let u = live_is b told lost (w (Region i r)) (live (Region i r)) v is (left.regions i r) in
         record {
@@ -246,8 +248,8 @@ module _ {S : Type 0} {kind : StoreKind S} (laws : KindLaws kind) (before after 
       once = works_once;
       others = λ i r v is. elim (h.others i r v is) [
         | inl there ↦ inl (subst (λ ks. Contains ks (record { inode = i; region = r })) (sym works_keys) there)
-        | inr sound ↦ inr (subst (λ k. IsWhole x.header.region k told lost v) (sym copies)
-            (subst (λ k. IsWhole k n told lost v) (sym region) (whole_is i r v is sound)))
+        | inr sound ↦ inr (subst (λ k. IsWholeRegion x.header.region k told lost v) (sym copies)
+            (subst (λ k. IsWholeRegion k n told lost v) (sym region) (whole_is i r v is sound)))
       ];
       regions_are = ap length h.changes ∙ length-map h.puts change_of ∙ sym (length-map h.puts work_of);
       anew_is = h.bytes ∙ works_bytes;

@@ -20,9 +20,10 @@ use Rattle.wtf_meta.proofs.Telling.{TellsOn, is_told-later, is_listed-later}
 use Rattle.wtf_meta.proofs.Weaker.{value_stays}
 use Rattle.wtf_healer.specs.Live.{IsLiveRegion, IsLiveValue, IsLiveMap}
 use Rattle.wtf_healer.specs.Regions.{Put, change_of}
-use Rattle.wtf_healer.specs.Runs.{IsWhole}
+use Rattle.wtf_healer.specs.Runs.{IsWholeRegion}
 use Rattle.wtf_healer.specs.Sparse.{is_to_heal, sparse_bytes}
-use Rattle.wtf_healer.proofs.Anew.{IsAnew, IsUnlost, anew_bytes, anew_region, anew_live, anew_whole, stays_bytes, stays_region, stays_whole, live_bytes, live_region}
+use Rattle.wtf_healer.proofs.Anew.{IsAnew, IsUnlost, anew_bytes, anew_region, anew_live, anew_whole, stays_bytes, stays_region, stays_whole, live_bytes}
+use Rattle.wtf_healer.proofs.Anew.{live_region}
 use Rattle.wtf_healer.proofs.Frame.{SameBodies, stands_bodies}
 use Rattle.wtf_healer.proofs.Puts.{keys_of, after_puts, put_at, put_aside}
 use Rattle.wtf_healer.proofs.Rereading.{live_later}
@@ -215,8 +216,8 @@ module _ (b n : ℕ) (told now : Told) (lost : ℕ → Bool) (on : TellsOn told 
   mended_live_stands tx k t st = stands_bodies b told now live kept live_bodies tx k t (live_map_bytes st.bytes) st
 
   -- no slice of it is sparse
-  pub mended_whole : (i : InodeId) (r : ℕ) (x : RegionValue) → v (Region i r) ≡ Some (value.Region x) → IsWhole b n now lost x
-  mended_whole i r x is = by_key (λ o l y z. (x : RegionValue) → y ≡ Some (value.Region x) → IsWhole b n now lost x)
-      (λ was u g lr a x e. let same : g ≡ x = cc in subst (IsWhole b n now lost) same (anew_whole b n told now lost was g a))
-      (λ was u lr k x e. let same : was ≡ x = cc in subst (IsWhole b n now lost) same (stays_whole b n told now lost on was u lr k))
+  pub mended_whole : (i : InodeId) (r : ℕ) (x : RegionValue) → v (Region i r) ≡ Some (value.Region x) → IsWholeRegion b n now lost x
+  mended_whole i r x is = by_key (λ o l y z. (x : RegionValue) → y ≡ Some (value.Region x) → IsWholeRegion b n now lost x)
+      (λ was u g lr a x e. let same : g ≡ x = cc in subst (IsWholeRegion b n now lost) same (anew_whole b n told now lost was g a))
+      (λ was u lr k x e. let same : was ≡ x = cc in subst (IsWholeRegion b n now lost) same (stays_whole b n told now lost on was u lr k))
       (λ o none x e. let bad : None ≡ Some x = sym none ∙ ap region_of e in absurd (cc)) i r x is

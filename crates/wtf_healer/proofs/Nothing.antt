@@ -30,7 +30,7 @@ use Rattle.wtf_meta.proofs.ListTests.{list_has-true}
 use Rattle.wtf_meta.proofs.Telling.{told_from, lists_in-from, lists_in-is}
 use Rattle.wtf_image.specs.Pictured.{IsImageOfTree}
 use Rattle.wtf_image.specs.Rules.{none_lost}
-use Rattle.wtf_healer.specs.Live.{is_left, IsLeft, IsLeftEntry, AreLeft, IsLeftList, IsLeftBase, IsLiveRegion, IsLiveValue, IsLiveMap, IsLiveTree}
+use Rattle.wtf_healer.specs.Live.{is_left, HasCopiesLeft, IsLeftEntry, AreLeft, IsLeftList, IsLeftBase, IsLiveRegion, IsLiveValue, IsLiveMap, IsLiveTree}
 use Rattle.wtf_healer.proofs.Frame.{SameBodies, stands_bodies}
 use Rattle.wtf_healer.proofs.Leaving.{left, left_slice, left_part, seen_left, list_left}
 use Rattle.wtf_healer.proofs.Restoring.{copies_of, All-append_parts}
@@ -45,7 +45,7 @@ copies_none [] = refl
 copies_none (p ∷ ps) = ap (λ (x : List Pointer). p ∷ x) (copies_none ps)
 
 -- a slice that is left is as long as it was, and has its places
-len_same : (s u : Slice) → IsLeft none_lost s u → len_of u ≡ len_of s
+len_same : (s u : Slice) → HasCopiesLeft none_lost s u → len_of u ≡ len_of s
 len_same s u h =
     let same : pointers_of u ≡ pointers_of s = h.copies ∙ copies_none (pointers_of s) in
     let some = copies_of s.len s.extents in
@@ -53,17 +53,17 @@ len_same s u h =
     let d = element (pointers_of s) 0 some in
     sym (pointers-len u 0 d more) ∙ ap (λ (ps : List Pointer). (get_or ps 0 d).len) same ∙ pointers-len s 0 d some
 
-places_same : (s u : Slice) → IsLeft none_lost s u → (i : ℕ) → places_of u i ≡ places_of s i
+places_same : (s u : Slice) → HasCopiesLeft none_lost s u → (i : ℕ) → places_of u i ≡ places_of s i
 places_same s u h i = left_slice none_lost s u h i ∙ left_none (places_of s i)
 
-tells_same : (told : Told) (s u : Slice) → IsLeft none_lost s u → (bytes : List ℕ) → SliceTells told u bytes → SliceTells told s bytes
+tells_same : (told : Told) (s u : Slice) → HasCopiesLeft none_lost s u → (bytes : List ℕ) → SliceTells told u bytes → SliceTells told s bytes
 tells_same told s u h bytes t = record {
   len = sym (len_same s u h) ∙ t.len;
   tells = λ i below. ap (meaning told) (sym (places_same s u h i)) ∙ t.tells i (subst (λ n. i < n) (sym (len_same s u h)) below);
 }
 
 -- the list in it is the one that was in the slice
-lists_same : (b : ℕ) (told : Told) (s u : Slice) (es : List Entry) → IsLeft none_lost s u → lists_in b told u ≡ Some es → lists_in b told s ≡ Some es
+lists_same : (b : ℕ) (told : Told) (s u : Slice) (es : List Entry) → HasCopiesLeft none_lost s u → lists_in b told u ≡ Some es → lists_in b told s ≡ Some es
 lists_same b told s u es h is =
     let was = lists_in-from b told u es is in lists_in-is b told s was.0 (tells_same told s u h was.0 was.1) ∙ was.2
 
@@ -113,7 +113,8 @@ module _ (b : ℕ) (told : Told) where
         list_has-true (is_told told) (lists_in b told s.slice) read.list is (entries_same told read.list whole read.entries read.bytes),
       )
 
-  region_bytes : (v u : RegionValue) → IsLiveRegion b told none_lost v u → RegionBytes (is_told told) (is_listed b told) u → RegionBytes (is_told told) (is_listed b told) v
+  region_bytes : (v u : RegionValue) → IsLiveRegion b told none_lost v u → RegionBytes (is_told told) (is_listed b told) u
+      → RegionBytes (is_told told) (is_listed b told) v
   region_bytes v u h bytes = record {
     base = base_bytes v.base h.under h.base_is;
     entries = entries_same told v.list h.top h.top_is
@@ -121,7 +122,8 @@ module _ (b : ℕ) (told : Told) where
   }
 
   -- what holds of each region and what is left of it, and of each other value and itself, holds of a value and what is left of it
-  live_case : (P : Option Value → Option Value → Type 0) → ((v u : RegionValue) → IsLiveRegion b told none_lost v u → P (Some (value.Region v)) (Some (value.Region u)))
+  live_case : (P : Option Value → Option Value → Type 0)
+      → ((v u : RegionValue) → IsLiveRegion b told none_lost v u → P (Some (value.Region v)) (Some (value.Region u)))
       → ((x : Option Value) → P x x) → (x l : Option Value) → IsLiveValue b told none_lost x l → P x l
   live_case P region other None l h = subst (P None) (sym h) (other None)
   live_case P region other (Some (value.Node n)) l h = subst (P (Some (value.Node n))) (sym h) (other (Some (value.Node n)))
@@ -134,7 +136,8 @@ module _ (b : ℕ) (told : Told) where
   live_case P region other (Some (value.Region v)) (Some (value.Region u)) h = region v u h
 
   module _ (w live : Map) (h : IsLiveMap b told none_lost w live) where
-    at : (P : Option Value → Option Value → Type 0) → ((v u : RegionValue) → IsLiveRegion b told none_lost v u → P (Some (value.Region v)) (Some (value.Region u)))
+    at : (P : Option Value → Option Value → Type 0) → ((v u : RegionValue) → IsLiveRegion b told none_lost v u
+        → P (Some (value.Region v)) (Some (value.Region u)))
         → ((x : Option Value) → P x x) → (i : InodeId) (r : ℕ) → P (w (Region i r)) (live (Region i r))
     at P region other i r = live_case P region other (w (Region i r)) (live (Region i r)) (h.regions i r)
 

@@ -1,5 +1,6 @@
 -- A pass over the keys of a store, region after region.
-use Rattle.std.proofs.Common.{◌≡◌, ◌≢◌, ℕ, ◌+◌, ◌⊎◌, ◌++◌, Bool, true, false, List, [], ◌∷◌, get_or, map, Option, None, Some, refl, sym, ap, ◌∙◌, subst, arith, inl, inr}
+use Rattle.std.proofs.Common.{◌≡◌, ◌≢◌, ℕ, ◌+◌, ◌⊎◌, ◌++◌, Bool, true, false, List, [], ◌∷◌, get_or, map, Option, None, Some, refl, sym, ap, ◌∙◌, subst, arith}
+use Rattle.std.proofs.Common.{inl, inr}
 use Rattle.std.specs.List.{All, AllPairs, Contains, sum_by}
 use Rattle.std.specs.declared.cmp.Ordering.{Ordering}
 use Rattle.std.specs.declared.cmp.Ordering.TheVariants.{Less, Equal, Greater}
@@ -36,7 +37,7 @@ use Rattle.wtf_region.specs.Devs.{IsSoundDev, GoesOn, stores, is_down_in, told_i
 use Rattle.wtf_region.proofs.Spans.{goes_on, goes_nowhere}
 use Rattle.wtf_region.proofs.Frames.{tells_on}
 use Rattle.wtf_healer.specs.Bases.{UpTells, IsBaseRead}
-use Rattle.wtf_healer.specs.Regions.{IsSound, IsHealed, Put, change_of, IsPutOf, IsPutFor, IsPutAt, IsLeftAt, IsHealedAt, AreHealed}
+use Rattle.wtf_healer.specs.Regions.{HasNoSparse, IsHealed, Put, change_of, IsPutOf, IsPutFor, IsPutAt, IsLeftAt, IsHealedAt, AreHealed}
 use Rattle.wtf_healer.specs.Restored.{Grew, AreRestored, OnlyStored}
 use Rattle.wtf_healer.specs.Sparse.{is_to_heal}
 use Rattle.wtf_healer.specs.declared.entries.Restored.{Restored}
@@ -71,7 +72,8 @@ module _ {S : Type 0} {kind : StoreKind S} (laws : KindLaws kind) where
         ]) (places_of s i) (h.tells i below);
   }
 
-  pub read_since : (old mid new : Dev S) → GoesOn kind old mid [] → (base : Option Spill) (es : List Entry) → IsBaseRead kind mid new base es → IsBaseRead kind old new base es
+  pub read_since : (old mid new : Dev S) → GoesOn kind old mid [] → (base : Option Spill) (es : List Entry) → IsBaseRead kind mid new base es
+      → IsBaseRead kind old new base es
   read_since old mid new f None es h = h
   read_since old mid new f (Some s) es h = record {
     decodes = λ bytes tells. subst (λ (st : Settings). decoded st.region bytes ≡ Some es) f.settings (h.decodes bytes (up_since old mid f s.slice bytes tells));
@@ -84,13 +86,19 @@ module _ {S : Type 0} {kind : StoreKind S} (laws : KindLaws kind) where
       ap (λ c. is_to_heal (is_down_in old) c under v) (sym (ap (λ (st : Settings). st.replicas) f.settings))
       ∙ ap (λ (d : ℕ → Bool). is_to_heal d mid.settings.replicas under v) (sym (down_same laws f))
 
-  pub sound_later : (old mid new : Dev S) → IsSoundDev kind mid → GoesOn kind mid new [] → (v : RegionValue) → IsSound kind old mid v → IsSound kind old new v
+  pub sound_later : (old mid new : Dev S) → IsSoundDev kind mid → GoesOn kind mid new [] → (v : RegionValue) → HasNoSparse kind old mid v
+      → HasNoSparse kind old new v
   sound_later old mid new sound g v h = record { under = h.under; read = read_later laws old mid new sound g v.base h.under h.read; whole = h.whole }
 
-  pub sound_since : (old mid new : Dev S) → GoesOn kind old mid [] → (v : RegionValue) → IsSound kind mid new v → IsSound kind old new v
-  sound_since old mid new f v h = record { under = h.under; read = read_since old mid new f v.base h.under h.read; whole = to_heal_since old mid f h.under v ∙ h.whole }
+  pub sound_since : (old mid new : Dev S) → GoesOn kind old mid [] → (v : RegionValue) → HasNoSparse kind mid new v → HasNoSparse kind old new v
+  sound_since old mid new f v h = record {
+    under = h.under;
+    read = read_since old mid new f v.base h.under h.read;
+    whole = to_heal_since old mid f h.under v ∙ h.whole;
+  }
 
-  healed_later : (old mid new : Dev S) → IsSoundDev kind mid → GoesOn kind mid new [] → (v : RegionValue) (made : Restored) → IsHealed kind old mid v made → IsHealed kind old new v made
+  healed_later : (old mid new : Dev S) → IsSoundDev kind mid → GoesOn kind mid new [] → (v : RegionValue) (made : Restored) → IsHealed kind old mid v made
+      → IsHealed kind old new v made
   healed_later old mid new sound g v made h = record {
     under = h.under;
     read = read_later laws old mid new sound g v.base h.under h.read;
@@ -100,7 +108,8 @@ module _ {S : Type 0} {kind : StoreKind S} (laws : KindLaws kind) where
     restored = restored_later old mid new sound g h.short made.list made.bytes h.restored;
   }
 
-  healed_since : (old mid new : Dev S) → GoesOn kind old mid [] → (v : RegionValue) (made : Restored) → IsHealed kind mid new v made → IsHealed kind old new v made
+  healed_since : (old mid new : Dev S) → GoesOn kind old mid [] → (v : RegionValue) (made : Restored) → IsHealed kind mid new v made
+      → IsHealed kind old new v made
   healed_since old mid new f v made h = record {
     under = h.under;
     read = read_since old mid new f v.base h.under h.read;
@@ -111,7 +120,13 @@ module _ {S : Type 0} {kind : StoreKind S} (laws : KindLaws kind) where
   }
 
   put_later : (old mid new : Dev S) → IsSoundDev kind mid → GoesOn kind mid new [] → (w : Map) (p : Put) → IsPutFor kind old mid w p → IsPutFor kind old new w p
-  put_later old mid new sound g w p h = record { was = h.was; there = h.there; made = h.made; healed = healed_later old mid new sound g h.was h.made h.healed; put = h.put }
+  put_later old mid new sound g w p h = record {
+    was = h.was;
+    there = h.there;
+    made = h.made;
+    healed = healed_later old mid new sound g h.was h.made h.healed;
+    put = h.put;
+  }
 
   put_since : (old mid new : Dev S) → GoesOn kind old mid [] → (w : Map) (p : Put) → IsPutFor kind mid new w p → IsPutFor kind old new w p
   put_since old mid new f w p h = record { was = h.was; there = h.there; made = h.made; healed = healed_since old mid new f h.was h.made h.healed; put = h.put }
@@ -168,7 +183,7 @@ pub record Passed {S : Type 0} (kind : StoreKind S) (old mid : Dev S) (kv : Stor
   pub before : All (λ (p : Put). is_before key_cmp at (Region p.key.inode p.key.region) ≡ true) puts
   pub once : AllPairs (λ (p q : Put). p.key ≢ q.key) puts
   pub others : (i : InodeId) (r : ℕ) (v : RegionValue) → metadata_at kv kv.number (Region i r) ≡ Some (value.Region v)
-      → is_before key_cmp at (Region i r) ≡ true → Contains (map (λ (p : Put). p.key) puts) (record { inode = i; region = r }) ⊎ IsSound kind old mid v
+      → is_before key_cmp at (Region i r) ≡ true → Contains (map (λ (p : Put). p.key) puts) (record { inode = i; region = r }) ⊎ HasNoSparse kind old mid v
   pub has_version_is : IsReached key_cmp kv at
 
 -- a key without a version shows nothing
@@ -290,7 +305,8 @@ module _ {S : Type 0} {kind : StoreKind S} (laws : KindLaws kind) (kv : Store Ke
               ap (λ (x : RegionKey). Region x.inode x.region) same ∙ sym h.key_is in not_itself k (subst (λ x. is_lt (key_cmp x k) ≡ true) place lt));
           others = λ i r v has below. elim (below_next k (Region i r) next is below (key_cmp (Region i r) k) refl) [
             | inl lt ↦ elim (p.others i r v has lt) [
-              | inl there ↦ inl (subst (λ ks. Contains ks (record { inode = i; region = r })) (sym keys_all) (Contains-append_left keys (q.key ∷ []) (record { inode = i; region = r }) there))
+              | inl there ↦ inl (subst (λ ks. Contains ks (record { inode = i; region = r })) (sym keys_all)
+                  (Contains-append_left keys (q.key ∷ []) (record { inode = i; region = r }) there))
               | inr s ↦ inr (sound_later laws old mid new sound_mid g v s)
             ]
             | inr rest ↦ elim rest [

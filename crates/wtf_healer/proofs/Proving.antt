@@ -1,5 +1,6 @@
 -- What a run promises, by what its status tells.
-use Rattle.std.proofs.Common.{◌≡◌, ◌≢◌, ◌↔◌, ℕ, ◌++◌, ◌<◌, Bool, true, List, [], ◌∷◌, length, Option, Some, None, Result, Ok, Err, refl, sym, ap, ◌∙◌, subst, arith, inl, inr}
+use Rattle.std.proofs.Common.{◌≡◌, ◌≢◌, ◌↔◌, ℕ, ◌++◌, ◌<◌, Bool, true, List, [], ◌∷◌, length, Option, Some, None, Result, Ok, Err, refl, sym, ap, ◌∙◌, subst}
+use Rattle.std.proofs.Common.{arith, inl, inr}
 use Rattle.std.proofs.lemmas.Bool.{false≢true}
 use Rattle.std.proofs.lemmas.List.{append-nil}
 use Rattle.wtf_base.specs.declared.fault.Fault.{Fault}
@@ -24,11 +25,11 @@ use Rattle.wtf_region.specs.declared.dev.Dev.{Dev}
 use Rattle.wtf_region.specs.Devs.{stores}
 use Rattle.wtf_healer.specs.declared.ends.Stop.{Stop}
 use Rattle.wtf_healer.specs.declared.ends.Stop.TheVariants as stop
-use Rattle.wtf_healer.specs.Ends.{RunSpan, Began, WasHealed, WasStopped, IsGiven, IsEnd, IsUndone, IsUntouchedIn, SinkSpan, IsEndTold, IsOver}
+use Rattle.wtf_healer.specs.Ends.{RunSpan, Began, WasHealed, WasStopped, IsGiven, IsEnd, IsUndone, IsUntouchedIn, SinkSpan, IsEndTold, IsHealOver}
 use Rattle.wtf_healer.specs.Lines.{done_lines, fault_line}
-use Rattle.wtf_healer.specs.Runs.{Says, AreNotSpared, AreRefused, IsRefusedImage, IsSaveFault, AreSynced, HasFault}
+use Rattle.wtf_healer.specs.Runs.{SaysText, AreNotSpared, AreRefused, IsRefusedImage, IsSaveFault, AreSynced, HasFault}
 use Rattle.wtf_healer.specs.Steps.{Passed}
-use Rattle.wtf_healer.specs.Words.{is_among}
+use Rattle.wtf_healer.specs.Words.{is_server_in}
 use Rattle.wtf_healer.proofs.Ending.{At, at}
 
 -- bytes are the text of one image
@@ -43,7 +44,8 @@ not_refused lost size bytes l h error.BadSettings known bad =
     bad.bad (subst AreGoodSettings (same_rows h.rows bad.rows bytes h.taken.text bad.text) h.taken.good)
 not_refused lost size bytes l h error.BadTree known bad = bad.bad (subst IsGoodTree (same_rows h.rows bad.rows bytes h.taken.text bad.text) h.taken.tree)
 not_refused lost size bytes l h error.PointerOutside known bad =
-    false≢true (sym bad.outside ∙ subst (λ (x : ImageRows). are_inside_without lost size x ≡ true) (same_rows h.rows bad.rows bytes h.taken.text bad.text) h.taken.inside)
+    false≢true (sym bad.outside ∙ subst (λ (x : ImageRows). are_inside_without lost size x ≡ true)
+    (same_rows h.rows bad.rows bytes h.taken.text bad.text) h.taken.inside)
 not_refused lost size bytes l h error.Memory known bad = known refl
 
 -- the syncs of stores over a pass
@@ -66,7 +68,7 @@ one_named names a b x y = cc
 
 module _ {S O : Type 0} (kind : StoreKind S) (names : Option (List ℕ)) (t : RunSpan S) (s : SinkSpan O) where
   abbrev Ended : ℕ → Type 0
-  Ended status = IsOver kind names t s status
+  Ended status = IsHealOver kind names t s status
 
   abbrev IsSo : ℕ → Result (List ℕ) Stop → Type 0
   IsSo status r = IsEndTold kind names t s status r
@@ -77,7 +79,7 @@ module _ {S O : Type 0} (kind : StoreKind S) (names : Option (List ℕ)) (t : Ru
   here : (n status : ℕ) → Ended status → status ≡ n → AtEnd n
   here n status h is = subst AtEnd is (at kind names t s status h)
 
-  not_said : (text : List ℕ) (wanted n status : ℕ) → Says text wanted status (s.view s.old) (s.view s.new) → wanted ≢ n → 4 ≢ n → status ≢ n
+  not_said : (text : List ℕ) (wanted n status : ℕ) → SaysText text wanted status (s.view s.old) (s.view s.new) → wanted ≢ n → 4 ≢ n → status ≢ n
   not_said text wanted n status h one other is = elim h.status_is [ inl same ↦ one (sym same ∙ is) | inr failed ↦ other (sym failed ∙ is) ]
 
   -- ---- words
@@ -152,7 +154,7 @@ module _ {S O : Type 0} (kind : StoreKind S) (names : Option (List ℕ)) (t : Ru
       began_good : (js image : List ℕ) → IsGiven names js t.keeper image → Began kind js image t.old → Bad ks held → ⊥
       began_good js image g b h =
           let bad : Bad js image = is_given js image g Bad h in
-          not_refused (is_among js) (size_in kind t.old) image b.loaded b.is_loaded.load bad.why bad.not_memory bad.refusal
+          not_refused (is_server_in js) (size_in kind t.old) image b.loaded b.is_loaded.load bad.why bad.not_memory bad.refusal
 
       image_end : (status : ℕ) (r : Result (List ℕ) Stop) → IsSo status r → status ≢ 2 → status ≢ 4 → status ≢ 7 → status ≢ 8 → Bad ks held → status ≡ 6
       image_end status (Ok lines) ((js, image, g, inl none), says) ne2 ne4 ne7 ne8 bad = absurd (bad.some (sym (g.held held holds) ∙ none.0))
@@ -275,7 +277,8 @@ module _ {S O : Type 0} (kind : StoreKind S) (names : Option (List ℕ)) (t : Ru
     pub empty : (status : ℕ) → Ended status → Nothing status
     empty status h = empty_end status h.ended h.told
 
-    pub nothing : (status : ℕ) → Ended status → status ≡ 0 → (text : List ℕ) → (s.view s.old).taken ≡ Some text → (s.view s.new).taken ≡ Some (text ++ done_lines 0 0)
+    pub nothing : (status : ℕ) → Ended status → status ≡ 0 → (text : List ℕ) → (s.view s.old).taken ≡ Some text
+        → (s.view s.new).taken ≡ Some (text ++ done_lines 0 0)
     nothing status h zero text taken = by (here 0 status h zero)
       where
         by : AtEnd 0 → (s.view s.new).taken ≡ Some (text ++ done_lines 0 0)

@@ -1,5 +1,6 @@
 -- Reading slices of which copies may be lost.
-use Rattle.std.proofs.Common.{◌≡◌, ℕ, ◌+◌, ◌-◌, ◌<◌, ◌≤◌, ◌⊎◌, ◌&&◌, ◌||◌, Bool, true, false, nat_lt, nat_le, List, [], ◌∷◌, length, get_or, map, Some, refl, sym, ap, ◌∙◌, subst, arith}
+use Rattle.std.proofs.Common.{◌≡◌, ℕ, ◌+◌, ◌-◌, ◌<◌, ◌≤◌, ◌⊎◌, ◌&&◌, ◌||◌, Bool, true, false, nat_lt, nat_le, List, [], ◌∷◌, length, get_or, map, Some, refl}
+use Rattle.std.proofs.Common.{sym, ap, ◌∙◌, subst, arith}
 use Rattle.std.proofs.Common.{inl, inr}
 use Rattle.std.specs.List.{All, list_all}
 use Rattle.std.proofs.lemmas.Bool.{and_parts, and_from, or_cases, or_left, or_right, ltb-true, lt-ltb, leb-true, cases_Bool}
@@ -61,8 +62,8 @@ module _ {S : Type 0} (kind : StoreKind S) (shelf : List S) (settings : Settings
       let some = some_bytes s in
       let P : Place → Bool = is_place_left kind shelf settings down in
       let all = AllPass-from_list_all P (places_of s (n - 1)) (h (n - 1) (omega (arith, some))) in
-      let here = All-unmap (λ q. P q ≡ true) (place_in (n - 1)) (pointers_of s) all k d below in
-      copy_readable n (get_or (pointers_of s) k d) (pointers-len s k d below) some here
+      let here = All-unmap (λ q. P q ≡ true) (place_in (n - 1)) (pointers_of s) all k d below
+      in copy_readable n (get_or (pointers_of s) k d) (pointers-len s k d below) some here
 
   -- what passes the test of a whole extent passes it byte by byte
   place_left : (i : ℕ) (p : Pointer) → i < p.len → lies_inside_without down settings.servers (size_in kind shelf) p ≡ true
@@ -84,7 +85,8 @@ module _ {S : Type 0} (kind : StoreKind S) (shelf : List S) (settings : Settings
       → list_all (is_place_left kind shelf settings down) (map (place_in i) ps) ≡ true
   places_left i n [] below lens h = refl
   places_left i n (p ∷ ps) below lens h =
-      let both = and_parts (lies_inside_without down settings.servers (size_in kind shelf) p) (list_all (lies_inside_without down settings.servers (size_in kind shelf)) ps) h in
+      let both = and_parts (lies_inside_without down settings.servers (size_in kind shelf) p)
+      (list_all (lies_inside_without down settings.servers (size_in kind shelf)) ps) h in
       let len : p.len ≡ n = All-head (λ (q : Pointer). q.len ≡ n) p ps lens in
       and_from (is_place_left kind shelf settings down (place_in i p)) (list_all (is_place_left kind shelf settings down) (map (place_in i) ps))
       (place_left i p (omega (arith, below, len)) both.0)
@@ -100,7 +102,8 @@ module _ {S : Type 0} (kind : StoreKind S) (shelf : List S) (settings : Settings
   list_left [] h = All-nil (EntryBytes (λ places. list_all (is_place_left kind shelf settings down) places))
   list_left (e ∷ es) h =
       let both = and_parts (part_lies down settings.servers (size_in kind shelf) e.part) (list_lies down settings.servers (size_in kind shelf) es) h in
-      All-cons (EntryBytes (λ places. list_all (is_place_left kind shelf settings down) places)) e es (part_left e.len e.part e.held both.0) (list_left es both.1)
+      All-cons (EntryBytes (λ places. list_all (is_place_left kind shelf settings down) places)) e es (part_left e.len e.part e.held both.0)
+      (list_left es both.1)
 
 module _ {S : Type 0} {kind : StoreKind S} (laws : KindLaws kind) where
   -- all bytes of a slice that were read are those that its copies on servers that are up tell

@@ -16,7 +16,7 @@ use Rattle.wtf_meta.specs.Bytes.{EntryBytes}
 use Rattle.wtf_meta.specs.Contents.{Told, SliceTells, is_told}
 use Rattle.wtf_meta.proofs.Telling.{TellsOn, lists_in-from, lists_in-later, is_told-later}
 use Rattle.wtf_healer.specs.Bases.{UpTells}
-use Rattle.wtf_healer.specs.Live.{IsLeft, AreLeft, IsLeftList, IsLeftBase, IsLiveRegion}
+use Rattle.wtf_healer.specs.Live.{HasCopiesLeft, AreLeft, IsLeftList, IsLeftBase, IsLiveRegion}
 use Rattle.wtf_healer.specs.Regions.{list_over}
 use Rattle.wtf_healer.specs.Runs.{IsUnder}
 use Rattle.wtf_healer.proofs.Leaving.{left, Lasts, left_slice, list_left, seen_left}
@@ -45,7 +45,7 @@ module _ (b : ℕ) (told : Told) (lost : ℕ → Bool) where
   up_each (q ∷ qs) byte h = up_one q qs byte (lost q.server) refl (up_each qs byte) h
 
   -- the bytes of what is left of a slice are those that its copies that are left tell
-  pub up_tells : (s u : Slice) → IsLeft lost s u → (bytes : List ℕ) → SliceTells told u bytes → UpTells lost told s bytes
+  pub up_tells : (s u : Slice) → HasCopiesLeft lost s u → (bytes : List ℕ) → SliceTells told u bytes → UpTells lost told s bytes
   up_tells s u l bytes t = record {
     len = sym (len_left lost s u l) ∙ t.len;
     tells = λ i below. up_each (places_of s i) (get_or bytes i 0)

@@ -1,5 +1,6 @@
 -- Entries that are stored anew: what they keep, and how much the stores grow by them.
-use Rattle.std.proofs.Common.{◌≡◌, ℕ, ◌+◌, ◌*◌, ◌<◌, ◌≤◌, ◌++◌, ◌&&◌, ◌||◌, Bool, true, false, nat_lt, cond, List, [], ◌∷◌, length, get_or, map, Some, Result, Ok, Err, refl, sym, ap, ◌∙◌, subst, arith, inl, inr, add_assoc}
+use Rattle.std.proofs.Common.{◌≡◌, ℕ, ◌+◌, ◌*◌, ◌<◌, ◌≤◌, ◌++◌, ◌&&◌, ◌||◌, Bool, true, false, nat_lt, cond, List, [], ◌∷◌, length, get_or, map, Some, Result}
+use Rattle.std.proofs.Common.{Ok, Err, refl, sym, ap, ◌∙◌, subst, arith, inl, inr, add_assoc}
 use Rattle.std.specs.Prelude.{not, IfOk}
 use Rattle.std.proofs.Math.Nat.{mul-add}
 use Rattle.std.specs.List.{All, filter, list_all}
@@ -43,7 +44,7 @@ use Rattle.wtf_region.proofs.InsideLaws.{place_from, slice_inside}
 use Rattle.wtf_region.specs.Showing.{meaning_up, told_by_some, ShownLive}
 use Rattle.wtf_healer.specs.Bases.{is_place_left, inside_left}
 use Rattle.wtf_healer.specs.Sparse.{has_lost, is_sparse_part, has_sparse, sparse_bytes}
-use Rattle.wtf_healer.specs.Restored.{TellUp, Keeps, AreKept, Grew, IsStoredFor, IsRestored, AreRestored}
+use Rattle.wtf_healer.specs.Restored.{TellUp, KeepsToldBytes, AreKept, Grew, IsStoredFor, IsRestored, AreRestored}
 
 -- ---- bytes that copies on servers that are up tell
 
@@ -94,7 +95,8 @@ inside_is_left kind shelf settings down enough (q ∷ qs) h =
     let fits : q.at < size = omega (arith, at.1.2 d, size_in-at kind shelf q.server q.file d at.1.0) in
     and_from (is_place_left kind shelf settings down q) (list_all (is_place_left kind shelf settings down) qs)
     (and_from (nat_lt q.server settings.servers) (nat_lt q.file 8 && (down q.server || nat_lt q.at size)) (lt-ltb q.server settings.servers at.0)
-    (and_from (nat_lt q.file 8) (down q.server || nat_lt q.at size) (lt-ltb q.file 8 at.1.1) (or_right (down q.server) (nat_lt q.at size) (lt-ltb q.at size fits))))
+    (and_from (nat_lt q.file 8) (down q.server || nat_lt q.at size) (lt-ltb q.file 8 at.1.1)
+    (or_right (down q.server) (nat_lt q.at size) (lt-ltb q.at size fits))))
     (inside_is_left kind shelf settings down enough qs both.1)
 
 pub All-append_parts : {X : Type 0} (P : X → Type 0) (xs ys : List X) → All P (xs ++ ys) → All P xs × All P ys
@@ -102,7 +104,7 @@ All-append_parts P [] ys h = (All-nil P, h)
 All-append_parts P (x ∷ xs) ys h =
     let rest = All-append_parts P xs ys (All-tail P x (xs ++ ys) h) in (All-cons P x xs (All-head P x (xs ++ ys) h) rest.0, rest.1)
 
-kept_push : (down : ℕ → Bool) (told now : Told) (es fs : List Entry) (e f : Entry) → AreKept down told now es fs → Keeps down told now e f
+kept_push : (down : ℕ → Bool) (told now : Told) (es fs : List Entry) (e f : Entry) → AreKept down told now es fs → KeepsToldBytes down told now e f
     → AreKept down told now (es ++ e ∷ []) (fs ++ f ∷ [])
 kept_push down told now [] [] e f h one = (one, tt)
 kept_push down told now (x ∷ es) (y ∷ fs) e f h one = (h.0, kept_push down told now es fs e f h.1 one)
@@ -121,7 +123,8 @@ module _ {S : Type 0} {kind : StoreKind S} (laws : KindLaws kind) where
   -- bytes that were read of an entry and stored stand for it
   pub stored_for : (old mid new : Dev S) → GoesOn kind old mid [] → OnlyRead kind (between old mid) → GoesOn kind mid new [] → (e : Entry) (v : List ℕ)
       → ShownLive (is_down_in old) (told_in kind old) e.len (part_origin e.part) [] v
-      → (place : PlaceView) (s : Slice) → IsStored kind (between mid new) mid.settings.replicas place v s → IsInside kind (stores new) s → IsOnServers mid.settings.servers s
+      → (place : PlaceView) (s : Slice) → IsStored kind (between mid new) mid.settings.replicas place v s → IsInside kind (stores new) s
+      → IsOnServers mid.settings.servers s
       → IsStoredFor kind old new e s
   stored_for old mid new f r g e v live place s stored inside known =
       let len : length v ≡ e.len = ap length live.more ∙ live.are.len in
@@ -131,8 +134,8 @@ module _ {S : Type 0} {kind : StoreKind S} (laws : KindLaws kind) where
         len = stored.len ∙ len;
         keeps = λ tells i b below h.
             let now = tell_up-later (is_down_in old) (stores old) (stores mid) f.each tells in
-            let byte : get_or v i 0 ≡ b = ap (λ (x : List ℕ). get_or x i 0) live.more ∙ live.are.shows i b below h in
-            meaning_some (told_in kind new) i b (pointers_of s) (copies_of s.len s.extents) (λ k d within.
+            let byte : get_or v i 0 ≡ b = ap (λ (x : List ℕ). get_or x i 0) live.more ∙ live.are.shows i b below h
+            in meaning_some (told_in kind new) i b (pointers_of s) (copies_of s.len s.extents) (λ k d within.
             let p : Pointer = get_or (pointers_of s) k d in
             let c = stored.copies k d within in
             let x : S = element (stores mid) p.server.0 c.server in
@@ -145,12 +148,15 @@ module _ {S : Type 0} {kind : StoreKind S} (laws : KindLaws kind) where
             let width : length (pointers_of s) ≡ old.settings.replicas = stored.width ∙ ap (λ (st : Settings). st.replicas) f.settings in
             or_from (nat_lt (length (pointers_of s)) old.settings.replicas) (has_lost (is_down_in old) (pointers_of s))
             (le-ltb (length (pointers_of s)) old.settings.replicas (omega (arith, width)))
-            (list_any_none (λ (p : Pointer). is_down_in old p.server.0) (pointers_of s) (λ k d within. low (get_or (pointers_of s) k d).server.0 (stored.copies k d within).up));
+            (list_any_none (λ (p : Pointer). is_down_in old p.server.0) (pointers_of s)
+            (λ k d within. low (get_or (pointers_of s) k d).server.0 (stored.copies k d within).up));
         inside = λ i below.
             let on : IsOnServers new.settings.servers s = subst (λ (st : Settings). IsOnServers st.servers s) (sym g.settings) known in
-            inside_is_left kind (stores new) new.settings (is_down_in new) g.sound.shelf (places_of s i) (slice_inside kind (stores new) new.settings s inside on i below);
+            inside_is_left kind (stores new) new.settings (is_down_in new) g.sound.shelf (places_of s i)
+            (slice_inside kind (stores new) new.settings s inside on i below);
         grew = λ none.
-            let total = stored.total (λ k rise. none k (risen_since kind (stores old) (stores mid) (stores new) f.each.same_length (each_kept laws f.each) k rise)) in
+            let total = stored.total (λ k rise. none k (risen_since kind (stores old) (stores mid) (stores new) f.each.same_length
+            (each_kept laws f.each) k rise)) in
             let before = same_lengths-stored kind (stores old) (stores mid) f.each.same_length r.lengths in
             total ∙ ap (λ n. n + mid.settings.replicas * length v) before
             ∙ ap (λ n. all_stored kind (stores old) + n * length v) (ap (λ (st : Settings). st.replicas) f.settings)
@@ -160,14 +166,14 @@ module _ {S : Type 0} {kind : StoreKind S} (laws : KindLaws kind) where
   -- ---- lists of entries
 
   pub keeps_later : (down : ℕ → Bool) (old mid new : List S) → EachFollows kind mid new [] → (e f : Entry)
-      → Keeps down (byte_at kind old) (byte_at kind mid) e f → Keeps down (byte_at kind old) (byte_at kind new) e f
+      → KeepsToldBytes down (byte_at kind old) (byte_at kind mid) e f → KeepsToldBytes down (byte_at kind old) (byte_at kind new) e f
   keeps_later down old mid new each e f h = record {
     placed = h.placed;
     bytes = λ i b below up. meaning_later (byte_at kind mid) (byte_at kind new) (part_origin f.part i) b (tells_on laws each) (h.bytes i b below up);
   }
 
   pub keeps_since : (down : ℕ → Bool) (old mid new : List S) → EachFollows kind old mid [] → (e f : Entry)
-      → Keeps down (byte_at kind mid) (byte_at kind new) e f → Keeps down (byte_at kind old) (byte_at kind new) e f
+      → KeepsToldBytes down (byte_at kind mid) (byte_at kind new) e f → KeepsToldBytes down (byte_at kind old) (byte_at kind new) e f
   keeps_since down old mid new each e f h = record {
     placed = h.placed;
     bytes = λ i b below up. h.bytes i b below (meaning_up-on down (byte_at kind old) (byte_at kind mid) (tells_on laws each) (part_origin e.part i) b up);
@@ -208,20 +214,25 @@ module _ {S : Type 0} {kind : StoreKind S} (laws : KindLaws kind) where
       (left_stays settings down old new each enough qs both.1)
 
   -- so do the places that are inside for what is lent
-  pub inside_later : (old new : Dev S) → IsSoundDev kind old → GoesOn kind old new [] → (qs : List Place) → inside_left kind old qs ≡ true → inside_left kind new qs ≡ true
+  pub inside_later : (old new : Dev S) → IsSoundDev kind old → GoesOn kind old new [] → (qs : List Place) → inside_left kind old qs ≡ true
+      → inside_left kind new qs ≡ true
   inside_later old new sound g qs h =
       let moved = left_stays old.settings (is_down_in old) (stores old) (stores new) g.each sound.shelf qs h in
       let same = subst (λ (st : Settings). list_all (is_place_left kind (stores new) st (is_down_in old)) qs ≡ true) (sym g.settings) moved in
       subst (λ (down : ℕ → Bool). list_all (is_place_left kind (stores new) new.settings down) qs ≡ true) (sym (down_same g)) same
 
-  pub entry_later : (old new : Dev S) → IsSoundDev kind old → GoesOn kind old new [] → (e : Entry) → EntryBytes (inside_left kind old) e → EntryBytes (inside_left kind new) e
+  pub entry_later : (old new : Dev S) → IsSoundDev kind old → GoesOn kind old new [] → (e : Entry) → EntryBytes (inside_left kind old) e
+      → EntryBytes (inside_left kind new) e
   entry_later old new sound g e h = λ i below. inside_later old new sound g (part_origin e.part i) (h i below)
 
-  pub entries_later : (old new : Dev S) → IsSoundDev kind old → GoesOn kind old new [] → (es : List Entry) → All (EntryBytes (inside_left kind old)) es → All (EntryBytes (inside_left kind new)) es
-  entries_later old new sound g es h = All-weaker (EntryBytes (inside_left kind old)) (EntryBytes (inside_left kind new)) (λ e. entry_later old new sound g e) es h
+  pub entries_later : (old new : Dev S) → IsSoundDev kind old → GoesOn kind old new [] → (es : List Entry) → All (EntryBytes (inside_left kind old)) es
+      → All (EntryBytes (inside_left kind new)) es
+  entries_later old new sound g es h = All-weaker (EntryBytes (inside_left kind old)) (EntryBytes (inside_left kind new))
+      (λ e. entry_later old new sound g e) es h
 
   -- growth adds up
-  pub grew_on : (old mid new : Dev S) → GoesOn kind old mid [] → GoesOn kind mid new [] → (n m : ℕ) → Grew kind old mid n → Grew kind mid new m → Grew kind old new (n + m)
+  pub grew_on : (old mid new : Dev S) → GoesOn kind old mid [] → GoesOn kind mid new [] → (n m : ℕ) → Grew kind old mid n → Grew kind mid new m
+      → Grew kind old new (n + m)
   grew_on old mid new f g n m one two none =
       let r : ℕ = old.settings.replicas in
       let first = one (λ k rise. none k (risen_on kind (stores old) (stores mid) (stores new) f.each.same_length (each_kept laws g.each) k rise)) in
@@ -241,13 +252,14 @@ module _ {S : Type 0} {kind : StoreKind S} (laws : KindLaws kind) where
       ap (λ (d : ℕ → Bool). sparse_bytes d mid.settings.replicas (e ∷ [])) down ∙ ap (λ n. sparse_bytes (is_down_in old) n (e ∷ [])) r in
       let sum : m ≡ n + sparse_bytes (is_down_in old) old.settings.replicas (e ∷ []) = bytes ∙ ap (λ y. n + y) more in
       let whole : is_sparse_part (is_down_in old) old.settings.replicas x.part ≡ false =
-      ap (λ n. is_sparse_part (is_down_in old) n x.part) (sym r) ∙ ap (λ (d : ℕ → Bool). is_sparse_part d mid.settings.replicas x.part) (sym down) ∙ one.whole in
+      ap (λ n. is_sparse_part (is_down_in old) n x.part) (sym r)
+      ∙ ap (λ (d : ℕ → Bool). is_sparse_part d mid.settings.replicas x.part) (sym down) ∙ one.whole in
       record {
         keeps = λ tells.
             let before = done.keeps tells in
             let again = tell_up-later (is_down_in old) (stores old) (stores mid) f.each tells in
             let here = one.keeps (subst (λ (d : ℕ → Bool). TellUp kind d (stores mid)) (sym down) again) in
-            let same = subst (λ (d : ℕ → Bool). Keeps d (told_in kind mid) (told_in kind new) e x) down here in
+            let same = subst (λ (d : ℕ → Bool). KeepsToldBytes d (told_in kind mid) (told_in kind new) e x) down here in
             subst (AreKept (is_down_in old) (told_in kind old) (told_in kind new) (es ++ e ∷ [])) (sym list)
             (kept_push (is_down_in old) (told_in kind old) (told_in kind new) es fs e x
             (kept_later (is_down_in old) (stores old) (stores mid) (stores new) g.each es fs before)
@@ -262,7 +274,8 @@ module _ {S : Type 0} {kind : StoreKind S} (laws : KindLaws kind) where
             let fits = All-head (λ (y : Entry). y.off + y.len ≤ end) e [] parts.1 in
             subst (Within end) (sym list)
             (All-append (λ (y : Entry). y.off + y.len ≤ end) fs (x ∷ []) (done.within end parts.0)
-            (All-cons (λ (y : Entry). y.off + y.len ≤ end) x [] (omega (arith, one.placed.off, one.placed.len, fits)) (All-nil (λ (y : Entry). y.off + y.len ≤ end))));
+            (All-cons (λ (y : Entry). y.off + y.len ≤ end) x [] (omega (arith, one.placed.off, one.placed.len, fits))
+            (All-nil (λ (y : Entry). y.off + y.len ≤ end))));
         inside = subst (All (EntryBytes (inside_left kind new))) (sym list)
             (All-append (EntryBytes (inside_left kind new)) fs (x ∷ []) (entries_later mid new f.sound g fs done.inside)
             (All-cons (EntryBytes (inside_left kind new)) x [] one.inside (All-nil (EntryBytes (inside_left kind new)))));

@@ -16,7 +16,7 @@ use Rattle.wtf_meta.specs.Lists.{Lists, seen_list}
 use Rattle.wtf_meta.specs.Bytes.{EntryBytes}
 use Rattle.wtf_meta.proofs.BaseLists.{list_within}
 use Rattle.wtf_meta.proofs.RegionBytes.{clipped_bytes}
-use Rattle.wtf_healer.specs.Regions.{IsShort, list_over}
+use Rattle.wtf_healer.specs.Regions.{IsCompacted, list_over}
 
 -- it is the list of the region where each slice decodes to that of its base
 over_is : (base : Option Spill) (under list : List Entry) → list_over base under list ≡ seen_list (λ s. Some under) base ++ list
@@ -39,14 +39,15 @@ module _ (P : List Place → Bool) where
   unfolding alone
   clipped n es h = (clipped_bytes P any n (Some (alone es)) (record { base = tt; entries = h })).entries
 
-  over_bytes : (base : Option Spill) (under list : List Entry) → All (EntryBytes P) under → All (EntryBytes P) list → All (EntryBytes P) (list_over base under list)
+  over_bytes : (base : Option Spill) (under list : List Entry) → All (EntryBytes P) under → All (EntryBytes P) list
+      → All (EntryBytes P) (list_over base under list)
   over_bytes None under list u h = h
   over_bytes (Some s) under list u h = All-append (EntryBytes P) (clip_list s.visible under) list (clipped s.visible under u) h
 
 -- what a list compacts to, of a region that shows that list
 pub short_of : (v : RegionValue) (under whole es : List Entry) → whole ≡ list_over v.base under v.list → IsCompact es
     → ((y : ℕ) → origin es y ≡ origin whole y) → ((end : ℕ) → Within end whole → Within end es)
-    → ((P : List Place → Bool) → EachByte P whole → EachByte P es) → IsShort v under es
+    → ((P : List Place → Bool) → EachByte P whole → EachByte P es) → IsCompacted v under es
 short_of v under whole es is compact same within named =
     let one : Lists = λ s. Some under in
     record {

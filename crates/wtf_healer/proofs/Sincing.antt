@@ -24,7 +24,7 @@ use Rattle.wtf_meta.specs.Maps.{Map}
 use Rattle.wtf_region.specs.declared.dev.Dev.{Dev}
 use Rattle.wtf_region.specs.Devs.{IsSoundDev, GoesOn, stores, is_down_in, between}
 use Rattle.wtf_healer.specs.Bases.{inside_left}
-use Rattle.wtf_healer.specs.Regions.{CanHeal, LacksBase, HasDamage, IsRegionFault, IsHealFault}
+use Rattle.wtf_healer.specs.Regions.{CanHeal, HealLacksBase, HasDamage, IsRegionFault, IsHealFault}
 use Rattle.wtf_healer.proofs.Faulting.{fault_over}
 use Rattle.wtf_healer.proofs.Passing.{read_since}
 use Rattle.wtf_healer.proofs.Restoring.{down_same, inside_later, entries_later}
@@ -69,8 +69,8 @@ module _ {S : Type 0} {kind : StoreKind S} (laws : KindLaws kind) where
             (subst (λ (d : ℕ → Bool). IsOut kind (span d (stores mid) (stores new)) p.server.0) down out_is)) (take h.copy (pointers_of s)) h.earlier;
       }
 
-  lacks_base_since : (old mid new : Dev S) → GoesOn kind old mid [] → (base : Option Spill) (k : ℕ) → LacksBase kind (between mid new) base k
-      → LacksBase kind (between old new) base k
+  lacks_base_since : (old mid new : Dev S) → GoesOn kind old mid [] → (base : Option Spill) (k : ℕ) → HealLacksBase kind (between mid new) base k
+      → HealLacksBase kind (between old new) base k
   lacks_base_since old mid new f None k h = h
   lacks_base_since old mid new f (Some s) k h =
       all_out_since kind (is_down_in old) (stores old) (stores mid) (stores new) f.each.same_length (each_kept laws f.each) s.slice k
@@ -81,7 +81,8 @@ module _ {S : Type 0} {kind : StoreKind S} (laws : KindLaws kind) where
   damage_since old mid new f (Some s) k h =
       record { bytes = h.bytes; whole = h.whole; read = fetched_since old mid new f s.slice 0 h.bytes k h.read; bad = h.bad }
 
-  region_since : (old mid new : Dev S) → GoesOn kind old mid [] → (v : RegionValue) (why : Fault) → IsRegionFault kind mid new v why → IsRegionFault kind old new v why
+  region_since : (old mid new : Dev S) → GoesOn kind old mid [] → (v : RegionValue) (why : Fault) → IsRegionFault kind mid new v why
+      → IsRegionFault kind old new v why
   region_since old mid new f v (fault.Read k) h = elim h [
     | inl base ↦ inl (lacks_base_since old mid new f v.base k.0 base)
     | inr lacks ↦ inr (record {

@@ -1,5 +1,6 @@
 -- How the parts of a run end, over the whole of it.
-use Rattle.std.proofs.Common.{◌≡◌, ◌≢◌, ◌⊎◌, ℕ, ◌<◌, ◌≤◌, ◌^◌, ◌++◌, Bool, true, false, nat_eq, List, [], ◌∷◌, length, get_or, Option, Some, refl, sym, ap, ◌∙◌, subst, arith, inl, inr}
+use Rattle.std.proofs.Common.{◌≡◌, ◌≢◌, ◌⊎◌, ℕ, ◌<◌, ◌≤◌, ◌^◌, ◌++◌, Bool, true, false, nat_eq, List, [], ◌∷◌, length, get_or, Option, Some, refl, sym, ap, ◌∙◌}
+use Rattle.std.proofs.Common.{subst, arith, inl, inr}
 use Rattle.std.specs.Prelude.{◌==◌, MatchBool}
 use Rattle.std.specs.List.{All}
 use Rattle.std.proofs.lemmas.Bool.{cases_lt, eq-eqb, ne_eqb, or_from, false≢true}
@@ -35,13 +36,14 @@ use Rattle.wtf_healer.specs.declared.ends.Stop.{Stop}
 use Rattle.wtf_healer.specs.declared.ends.Stop.TheVariants as stop
 use Rattle.wtf_healer.specs.declared.lost.Lost.{Lost}
 use Rattle.wtf_healer.specs.declared.regions.Healed.{Healed}
-use Rattle.wtf_healer.specs.Ends.{RunSpan, OnlyHealed, WasMade, IsMakeStop, IsUnsaved, IsPassStop, AreLostSame, IsLoadedFor, IsLoadStop, Began, WasKept, WasHealed, IsUntouchedIn, IsStop, AreHanded, run_span, IsGiven, IsDone, IsUndone, IsEnd, GoesBy}
+use Rattle.wtf_healer.specs.Ends.{RunSpan, OnlyHealed, WasMade, IsMakeStop, IsUnsaved, IsPassStop, AreLostSame, IsLoadedFor, IsLoadStop, Began, WasKept}
+use Rattle.wtf_healer.specs.Ends.{WasHealed, IsUntouchedIn, IsStop, AreHanded, run_span, IsGiven, HasHealed, IsUndone, IsEnd, GoesBy}
 use Rattle.wtf_healer.specs.Lines.{done_lines}
 use Rattle.wtf_healer.specs.Regions.{AreHealed, IsHealFault}
 use Rattle.wtf_healer.specs.Runs.{AreNotSpared}
 use Rattle.wtf_healer.specs.Spared.{AreSpared, IsLostOf, left_of}
 use Rattle.wtf_healer.specs.Steps.{IsPutIn, IsKeepFault, CanHealOver, Passed}
-use Rattle.wtf_healer.specs.Words.{is_among}
+use Rattle.wtf_healer.specs.Words.{is_server_in}
 use Rattle.wtf_healer.proofs.Inside.{can_heal}
 use Rattle.wtf_healer.proofs.Proving.{same_rows}
 
@@ -190,13 +192,13 @@ where_so P Q false is h = absurd (false≢true is)
 same_spared : (ks : List ℕ) (a b : Settings) (stores : ℕ) → a.servers ≡ b.servers → a.replicas ≡ b.replicas → AreSpared ks a stores → AreSpared ks b stores
 same_spared ks a b stores servers replicas h = record {
   known = subst (λ n. All (λ k. k < n) ks) servers h.known;
-  left = subst (λ n. n ≤ left_of (is_among ks) b.servers) replicas (subst (λ n. a.replicas ≤ left_of (is_among ks) n) servers h.left);
+  left = subst (λ n. n ≤ left_of (is_server_in ks) b.servers) replicas (subst (λ n. a.replicas ≤ left_of (is_server_in ks) n) servers h.left);
   stores_are = subst (λ n. n ≤ stores) servers h.stores_are;
 }
 
 module _ (ks : List ℕ) (lost : Lost) (of : IsLostOf ks lost) where
   -- the mask says which servers are lost
-  pub mask_is : is_lost lost.mask ≡ is_among ks
+  pub mask_is : is_lost lost.mask ≡ is_server_in ks
   mask_is = λ i k. of.has k i
 
   module _ {S : Type 0} (kind : StoreKind S) (image : List ℕ) (shelf : List S) (settings : Settings) (checked : IsChecked image settings) where
@@ -219,7 +221,8 @@ module _ (ks : List ℕ) (lost : Lost) (of : IsLostOf ks lost) where
       rows = checked.rows;
       text = checked.text;
       good = checked.good;
-      bad = λ s are spared. bad (same_spared ks s settings (length shelf) (are.servers ∙ sym checked.settings.servers) (are.replicas ∙ sym checked.settings.replicas) spared);
+      bad = λ s are spared. bad (same_spared ks s settings (length shelf) (are.servers ∙ sym checked.settings.servers)
+          (are.replicas ∙ sym checked.settings.replicas) spared);
     }
 
     pub loaded_for : (l : Loaded) → AreSpared ks settings (length shelf) → IsLoadWithout (is_lost lost.mask) (size_in kind shelf) image l
@@ -252,7 +255,8 @@ module _ (ks : List ℕ) (lost : Lost) (of : IsLostOf ks lost) where
 
 -- why bytes were refused before any server was counted
 pub check_stop : {S : Type 0} (kind : StoreKind S) (ks image : List ℕ) (shelf : List S) (why : LoadError) (told : Stop)
-    → (why ≡ error.Memory → told ≡ stop.Memory) → (why ≢ error.Memory → told ≡ stop.Refused why) → IsCheckRefusal image why → IsLoadStop kind ks image shelf told
+    → (why ≡ error.Memory → told ≡ stop.Memory) → (why ≢ error.Memory → told ≡ stop.Refused why) → IsCheckRefusal image why
+    → IsLoadStop kind ks image shelf told
 check_stop kind ks image shelf error.Memory told memory other h = subst (IsLoadStop kind ks image shelf) (sym (memory refl)) tt
 check_stop kind ks image shelf error.NotAnImage told memory other h = subst (IsLoadStop kind ks image shelf) (sym (other (λ e. absurd (cc)))) (record {
   not_memory = λ e. absurd (cc);
@@ -272,17 +276,18 @@ check_stop kind ks image shelf error.PointerOutside told memory other h = absurd
 -- the servers that are down are the lost ones
 pub down_is : (ks : List ℕ) (lost : Lost) → IsLostOf ks lost → (settings : Settings) (stores : ℕ) → AreSpared ks settings stores → (replicas : Replicas)
     → ((k : ℕ) → k < settings.servers → is_down replicas k ≡ is_lost lost.mask k) → ((k : ℕ) → settings.servers ≤ k → is_down replicas k ≡ false)
-    → (k : ℕ) → is_down replicas k ≡ is_among ks k
+    → (k : ℕ) → is_down replicas k ≡ is_server_in ks k
 down_is ks lost of settings stores spared replicas below past k = elim (cases_lt k settings.servers) [
   | inl lt ↦ below k lt ∙ of.has k
   | inr le ↦ past k le ∙ sym (past_all le ks spared.known)
 ]
   where
-    past_all : settings.servers ≤ k → (js : List ℕ) → All (λ j. j < settings.servers) js → is_among js k ≡ false
+    past_all : settings.servers ≤ k → (js : List ℕ) → All (λ j. j < settings.servers) js → is_server_in js k ≡ false
     past_all le [] all = refl
     past_all le (j ∷ js) all =
         let first : j < settings.servers = All-head (λ j. j < settings.servers) j js all in
-        or_from (nat_eq k j) (is_among js k) (ne_eqb k j (λ e. absurd (omega (arith, e, first, le)))) (past_all le js (All-tail (λ j. j < settings.servers) j js all))
+        or_from (nat_eq k j) (is_server_in js k) (ne_eqb k j (λ e. absurd (omega (arith, e, first, le))))
+        (past_all le js (All-tail (λ j. j < settings.servers) j js all))
 
 -- what was loaded and then stopped
 pub stop_over : {S : Type 0} (kind : StoreKind S) (ks image : List ℕ) (t : RunSpan S) → (b : Began kind ks image t.old) (why : Stop)
@@ -319,7 +324,7 @@ module _ {S : Type 0} (kind : StoreKind S) (ks : List ℕ) (lost : Lost) (of : I
   }
 
   pub can : CanHealOver kind shelf replicas loaded.settings (metadata_at loaded.kv loaded.kv.number)
-  can = can_heal kind shelf replicas (is_among ks) image loaded (λ k lt. began.down k) h.load
+  can = can_heal kind shelf replicas (is_server_in ks) image loaded (λ k lt. began.down k) h.load
 
   -- the stores of lost servers stay
   pub lost_stay : (new : List S) → OnlyHealed kind replicas shelf new → AreLostSame ks shelf new
@@ -419,7 +424,7 @@ module _ {S K : Type 0} (kind : StoreKind S) (view : K → KeeperView) (follows 
 
   -- with what the words and the keeper give
   module _ (names : Option (List ℕ)) (ks image : List ℕ) (given : IsGiven names ks (view a) image) (some : image ≢ []) where
-    pub done_late : (lines : List ℕ) → WasHealed kind ks image Late lines → IsDone kind names Whole lines
+    pub done_late : (lines : List ℕ) → WasHealed kind ks image Late lines → HasHealed kind names Whole lines
     done_late lines h = (ks, image, given, inr (some, healed_late ks image lines h))
 
     undone : (why : Stop) → IsStop kind ks image Late why → IsUndone kind names Whole why

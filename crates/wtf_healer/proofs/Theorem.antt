@@ -4,10 +4,10 @@ use Rattle.wtf_base.specs.declared.fault.Fault.{Fault}
 use Rattle.wtf_dev.specs.Store.{StoreKind, KindLaws}
 use Rattle.wtf_model.specs.Tree.{Tree}
 use Rattle.wtf_replica.specs.Bytes.{byte_at}
-use Rattle.wtf_healer.specs.Ends.{RunSpan, SinkSpan, WasHealed, WasStopped, IsGiven, IsDone, IsEnd, IsUndone, IsToldStop, IsEndTold, IsOver}
+use Rattle.wtf_healer.specs.Ends.{RunSpan, SinkSpan, WasHealed, WasStopped, IsGiven, HasHealed, IsEnd, IsUndone, IsToldStop, IsEndTold, IsHealOver}
 use Rattle.wtf_healer.specs.Live.{IsLiveTree}
-use Rattle.wtf_healer.specs.Runs.{Says, HasRoom, AreTelling, Heals, IsStill, OnlyServersTell}
-use Rattle.wtf_healer.specs.Words.{is_among}
+use Rattle.wtf_healer.specs.Runs.{SaysText, HasNextNumber, AreTelling, Heals, NoFaultRose, OnlyServersTell}
+use Rattle.wtf_healer.specs.Words.{is_server_in}
 use Rattle.wtf_healer.specs.declared.ends.Stop.{Stop}
 use Rattle.wtf_healer.specs.declared.ends.Stop.TheVariants as stop
 use Rattle.wtf_healer.proofs.Faultless.{no_fault}
@@ -19,7 +19,7 @@ one_naming names ks js one two = let both : Some js ≡ Some ks = sym two ∙ on
 
 module _ {S O : Type 0} {kind : StoreKind S} (laws : KindLaws kind) (names : Option (List ℕ)) (t : RunSpan S) (s : SinkSpan O) where
   abbrev Wrote : List ℕ → ℕ → ℕ → Type 0
-  Wrote text wanted status = Says text wanted status (s.view s.old) (s.view s.new)
+  Wrote text wanted status = SaysText text wanted status (s.view s.old) (s.view s.new)
 
   -- a line that was said with another status
   not_zero : (text : List ℕ) (wanted status : ℕ) → 0 < wanted → Wrote text wanted status → status ≡ 0 → ⊥
@@ -39,22 +39,22 @@ module _ {S O : Type 0} {kind : StoreKind S} (laws : KindLaws kind) (names : Opt
   done_stop status stop.Memory told zero = absurd (omega (arith, told.0, zero))
 
   done_end : (status : ℕ) (r : Result (List ℕ) Stop) → IsEndTold kind names t s status r → status ≡ 0
-      → (lines : List ℕ) × IsDone kind names t lines × Wrote lines 0 0
+      → (lines : List ℕ) × HasHealed kind names t lines × Wrote lines 0 0
   done_end status (Ok lines) h zero = (lines, h.0, subst (Wrote lines 0) zero h.1)
   done_end status (Err why) h zero = absurd (done_stop status why h.1 zero)
 
   module _ (held ks : List ℕ) (tree : Tree) (named : names ≡ Some ks) (some : held ≢ []) (telling : AreTelling kind ks t.old t.keeper held)
-      (live : IsLiveTree (byte_at kind t.old) (is_among ks) held tree) where
+      (live : IsLiveTree (byte_at kind t.old) (is_server_in ks) held tree) where
     -- what the keeper gave is what it held, and the servers are those of the words
     given : (P : List ℕ → List ℕ → Type 0) (js image : List ℕ) → IsGiven names js t.keeper image → P js image → P ks held
     given P js image g h = subst (P ks) (g.held held telling.held) (subst (λ l. P l image) (one_naming names ks js named g.named) h)
 
-    was_healed : (lines : List ℕ) → IsDone kind names t lines → WasHealed kind ks held t lines
+    was_healed : (lines : List ℕ) → HasHealed kind names t lines → WasHealed kind ks held t lines
     was_healed lines (js, image, g, inl none) = absurd (some (sym (g.held held telling.held) ∙ none.0))
     was_healed lines (js, image, g, inr done) = given (λ l bytes. WasHealed kind l bytes t lines) js image g done.1
 
     -- a run with status 0 healed the image
-    pub healed : HasRoom held → (status : ℕ) → IsOver kind names t s status → status ≡ 0 → (text : List ℕ) → (s.view s.old).taken ≡ Some text
+    pub healed : HasNextNumber held → (status : ℕ) → IsHealOver kind names t s status → status ≡ 0 → (text : List ℕ) → (s.view s.old).taken ≡ Some text
         → Heals kind ks t.old t.new t.keeper_now tree held text (s.view s.new).taken
     healed room status over zero text taken =
         let done = done_end status over.ended over.told zero in
@@ -62,7 +62,8 @@ module _ {S O : Type 0} {kind : StoreKind S} (laws : KindLaws kind) (names : Opt
 
     -- ---- where nothing failed
 
-    module _ (only : OnlyServersTell (byte_at kind t.old) held) (still : IsStill kind (s.view s.old, t.old, t.keeper) (s.view s.new, t.new, t.keeper_now)) where
+    module _ (only : OnlyServersTell (byte_at kind t.old) held)
+        (still : NoFaultRose kind (s.view s.old, t.old, t.keeper) (s.view s.new, t.new, t.keeper_now)) where
       abbrev IsFine : ℕ → Type 0
       IsFine status = (status ≡ 0) ⊎ (status ≡ 2) ⊎ (status ≡ 6) ⊎ (status ≡ 7)
 
@@ -92,5 +93,5 @@ module _ {S O : Type 0} {kind : StoreKind S} (laws : KindLaws kind) (names : Opt
       fine_end status (Err why) h = fine_stop status why h.0 h.1
 
       -- only want of memory stops a run
-      pub complete : (status : ℕ) → IsOver kind names t s status → IsFine status
+      pub complete : (status : ℕ) → IsHealOver kind names t s status → IsFine status
       complete status over = fine_end status over.ended over.told

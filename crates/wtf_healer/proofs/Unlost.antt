@@ -1,5 +1,6 @@
 -- What is left of slices and lists of which no copy is lost: all of them.
-use Rattle.std.proofs.Common.{◌≡◌, ℕ, ◌-◌, ◌<◌, ◌++◌, Bool, true, false, nat_lt, cond, List, [], ◌∷◌, length, map, Some, refl, sym, ap, ◌∙◌, subst, arith, inl, inr}
+use Rattle.std.proofs.Common.{◌≡◌, ℕ, ◌-◌, ◌<◌, ◌++◌, Bool, true, false, nat_lt, cond, List, [], ◌∷◌, length, map, Some, refl, sym, ap, ◌∙◌, subst, arith, inl}
+use Rattle.std.proofs.Common.{inr}
 use Rattle.std.specs.Prelude.{not}
 use Rattle.std.specs.List.{All, filter, list_all}
 use Rattle.std.proofs.lemmas.Bool.{and_parts, or_parts, cases_lt, cond-true, ltb-true, not_from_false}
@@ -21,7 +22,7 @@ use Rattle.wtf_overlay.proofs.Origins.{origin_from-append}
 use Rattle.wtf_meta.specs.Bytes.{EntryBytes}
 use Rattle.wtf_meta.specs.Contents.{Told, SliceTells, lists_in}
 use Rattle.wtf_meta.proofs.Telling.{lists_in-from, lists_in-is}
-use Rattle.wtf_healer.specs.Live.{is_left, IsLeft, IsLeftPart, IsLeftEntry, AreLeft}
+use Rattle.wtf_healer.specs.Live.{is_left, HasCopiesLeft, IsLeftPart, IsLeftEntry, AreLeft}
 use Rattle.wtf_healer.specs.Sparse.{has_lost, is_sparse, is_sparse_part, has_sparse}
 use Rattle.wtf_healer.proofs.Leaving.{covers_same}
 use Rattle.wtf_healer.proofs.Restoring.{copies_of}
@@ -32,7 +33,7 @@ are_filed qs = list_all (λ (q : Place). nat_lt q.file 8) qs
 
 module _ (lost : ℕ → Bool) where
   -- what is left of a slice is as long as it
-  pub len_left : (s u : Slice) → IsLeft lost s u → len_of u ≡ len_of s
+  pub len_left : (s u : Slice) → HasCopiesLeft lost s u → len_of u ≡ len_of s
   len_left s u h =
       let some = copies_of u.len u.extents in
       let d = element (pointers_of u) 0 some in
@@ -54,14 +55,14 @@ module _ (lost : ℕ → Bool) (n : ℕ) where
 
   -- ---- slices
 
-  all_left : (s u : Slice) → is_sparse lost n s ≡ false → IsLeft lost s u → pointers_of u ≡ pointers_of s
+  all_left : (s u : Slice) → is_sparse lost n s ≡ false → HasCopiesLeft lost s u → pointers_of u ≡ pointers_of s
   all_left s u h l = l.copies ∙ copies_all lost (pointers_of s) (none_of s h)
 
-  places_same : (s u : Slice) → is_sparse lost n s ≡ false → IsLeft lost s u → (i : ℕ) → places_of u i ≡ places_of s i
+  places_same : (s u : Slice) → is_sparse lost n s ≡ false → HasCopiesLeft lost s u → (i : ℕ) → places_of u i ≡ places_of s i
   places_same s u h l i = ap (map (place_in i)) (all_left s u h l)
 
   -- the bytes that are told of what is left are told of the slice
-  pub tells_same : (told : Told) (s u : Slice) → is_sparse lost n s ≡ false → IsLeft lost s u → (bytes : List ℕ) → SliceTells told u bytes
+  pub tells_same : (told : Told) (s u : Slice) → is_sparse lost n s ≡ false → HasCopiesLeft lost s u → (bytes : List ℕ) → SliceTells told u bytes
       → SliceTells told s bytes
   tells_same told s u h l bytes t = record {
     len = sym (len_left lost s u l) ∙ t.len;
@@ -69,7 +70,7 @@ module _ (lost : ℕ → Bool) (n : ℕ) where
   }
 
   -- so is the list
-  pub lists_same : (b : ℕ) (told : Told) (s u : Slice) (es : List Entry) → is_sparse lost n s ≡ false → IsLeft lost s u → lists_in b told u ≡ Some es
+  pub lists_same : (b : ℕ) (told : Told) (s u : Slice) (es : List Entry) → is_sparse lost n s ≡ false → HasCopiesLeft lost s u → lists_in b told u ≡ Some es
       → lists_in b told s ≡ Some es
   lists_same b told s u es h l is =
       let was = lists_in-from b told u es is in lists_in-is b told s was.0 (tells_same told s u h l was.0 was.1) ∙ was.2
@@ -143,7 +144,7 @@ module _ (lost : ℕ → Bool) (n : ℕ) where
       let both = and_parts (nat_lt p.file 8) (are_filed (map (place_in 0) ps)) h in
       All-cons (λ (p : Pointer). p.file < 8) p ps (ltb-true p.file 8 both.0) (files_of ps both.1)
 
-  pub slice_itself : (s : Slice) → is_sparse lost n s ≡ false → are_filed (places_of s 0) ≡ true → IsLeft lost s s
+  pub slice_itself : (s : Slice) → is_sparse lost n s ≡ false → are_filed (places_of s 0) ≡ true → HasCopiesLeft lost s s
   slice_itself s h filed = record { copies = sym (copies_all lost (pointers_of s) (none_of s h)); files = files_of (pointers_of s) filed }
 
   part_itself : (p : Part) → is_sparse_part lost n p ≡ false → are_filed (part_origin p 0) ≡ true → IsLeftPart lost p p

@@ -37,8 +37,8 @@ abbrev pub list_lies : (ℕ → Bool) → ℕ → (ℕ → ℕ → ℕ) → List
 list_lies lost servers size es = list_all (λ (e : Entry). part_lies lost servers size e.part) es
 
 -- the same over the stores that are lent
-abbrev pub lies_in : {S : Type 0} → StoreKind S → Dev S → List Entry → Bool
-lies_in kind dev es = list_lies (is_down_in dev) dev.settings.servers (size_in kind (stores dev)) es
+abbrev pub list_lies_lent : {S : Type 0} → StoreKind S → Dev S → List Entry → Bool
+list_lies_lent kind dev es = list_lies (is_down_in dev) dev.settings.servers (size_in kind (stores dev)) es
 
 -- a place lies on a server of the settings, in one of its eight files, and before its end where that server is not down
 abbrev pub is_place_left : {S : Type 0} → StoreKind S → List S → Settings → (ℕ → Bool) → Place → Bool
@@ -57,11 +57,11 @@ pub record UpTells (down : ℕ → Bool) (told : Told) (s : Slice) (bytes : List
 -- the bytes are those of a list that names only bytes inside the stores
 pub record IsListIn {S : Type 0} (kind : StoreKind S) (dev : Dev S) (bytes : List ℕ) (es : List Entry) : Type 0 where
   pub decodes : decoded dev.settings.region bytes ≡ Some es
-  pub lies : lies_in kind dev es ≡ true
+  pub lies : list_lies_lent kind dev es ≡ true
 
 -- they are of no list, or of one that names bytes outside the stores
 abbrev pub AreNoList : {S : Type 0} → StoreKind S → Dev S → List ℕ → Type 0
-AreNoList kind dev bytes = (es : List Entry) → decoded dev.settings.region bytes ≡ Some es → lies_in kind dev es ≡ false
+AreNoList kind dev bytes = (es : List Entry) → decoded dev.settings.region bytes ≡ Some es → list_lies_lent kind dev es ≡ false
 
 -- why bytes that server k gave are taken for no list; memory may be short at any time
 abbrev pub IsNoListIn : {S : Type 0} → StoreKind S → Dev S → List ℕ → ℕ → Fault → Type 0

@@ -29,10 +29,10 @@ use Rattle.wtf_healer.specs.declared.ends.Stop.TheVariants as stop
 use Rattle.wtf_healer.specs.declared.regions.Healed.{Healed}
 use Rattle.wtf_healer.specs.Lines.{done_lines, fault_line, refusal_line}
 use Rattle.wtf_healer.specs.Regions.{AreHealed, IsHealFault}
-use Rattle.wtf_healer.specs.Runs.{AreNotSpared, Says}
+use Rattle.wtf_healer.specs.Runs.{AreNotSpared, SaysText}
 use Rattle.wtf_healer.specs.Spared.{AreSpared}
 use Rattle.wtf_healer.specs.Steps.{IsPutIn, Passed, SaysOrNot}
-use Rattle.wtf_healer.specs.Words.{is_among}
+use Rattle.wtf_healer.specs.Words.{is_server_in}
 
 -- what a run is lent, before it and behind it, and which images may have been handed to the keeper meanwhile
 pub record RunSpan (S : Type 0) : Type 1 where
@@ -52,7 +52,7 @@ AreHanded handed = (images : List (List ℕ)) × (length images ≤ 1) × handed
 
 -- the stores of lost servers are as they were
 abbrev pub AreLostSame : {S : Type 0} → List ℕ → (old new : List S) → Type 0
-AreLostSame {S} ks old new = (k : ℕ) (d : S) → is_among ks k ≡ true → slice_index_or new k d ≡ slice_index_or old k d
+AreLostSame {S} ks old new = (k : ℕ) (d : S) → is_server_in ks k ≡ true → slice_index_or new k d ≡ slice_index_or old k d
 
 -- what each run keeps, however it ends: one image or none was handed over, the stores of lost servers are as they were, and each store
 -- follows what it was
@@ -125,7 +125,7 @@ IsPassStop kind replicas l t stop.Memory = t.handed []
 
 -- an image was loaded that can do without the lost servers
 pub record IsLoadedFor {S : Type 0} (kind : StoreKind S) (ks : List ℕ) (image : List ℕ) (shelf : List S) (loaded : Loaded) : Type 0 where
-  pub load : IsLoadWithout (is_among ks) (size_in kind shelf) image loaded
+  pub load : IsLoadWithout (is_server_in ks) (size_in kind shelf) image loaded
   pub spared : AreSpared ks loaded.settings (length shelf)
 
 -- and they are down
@@ -134,7 +134,7 @@ pub record Began {S : Type 0} (kind : StoreKind S) (ks : List ℕ) (image : List
   pub is_loaded : IsLoadedFor kind ks image shelf loaded
   pub replicas : Replicas
   pub settings : replicas.settings ≡ loaded.settings
-  pub down : (k : ℕ) → is_down replicas k ≡ is_among ks k
+  pub down : (k : ℕ) → is_down replicas k ≡ is_server_in ks k
 
 -- all of it was healed, and kept
 pub record WasHealed {S : Type 0} (kind : StoreKind S) (ks : List ℕ) (image : List ℕ) (t : RunSpan S) (lines : List ℕ) : Type 0 where
@@ -154,7 +154,7 @@ pub record IsUntouchedIn {S : Type 0} (t : RunSpan S) : Type 0 where
 -- the image breaks a rule, and not the one of servers that it can do without
 pub record IsRefusedFor {S : Type 0} (kind : StoreKind S) (ks : List ℕ) (image : List ℕ) (shelf : List S) (why : LoadError) : Type 0 where
   pub not_memory : why ≢ error.Memory
-  pub refusal : IsRefusalWithout (is_among ks) (size_in kind shelf) image why
+  pub refusal : IsRefusalWithout (is_server_in ks) (size_in kind shelf) image why
   pub not_words : AreNotSpared ks image (length shelf) → ⊥
 
 -- why an image was not loaded; memory may be short at any time
@@ -183,8 +183,8 @@ pub record IsGiven (names : Option (List ℕ)) (ks : List ℕ) (keeper : KeeperV
   pub held : (b : List ℕ) → keeper.held ≡ Some b → image ≡ b
 
 -- an image was healed, or there was none
-abbrev pub IsDone : {S : Type 0} → StoreKind S → Option (List ℕ) → RunSpan S → List ℕ → Type 0
-IsDone kind names t lines = (ks : List ℕ) × (image : List ℕ) × IsGiven names ks t.keeper image
+abbrev pub HasHealed : {S : Type 0} → StoreKind S → Option (List ℕ) → RunSpan S → List ℕ → Type 0
+HasHealed kind names t lines = (ks : List ℕ) × (image : List ℕ) × IsGiven names ks t.keeper image
     × (((image ≡ []) × IsUntouchedIn t × (lines ≡ done_lines 0 0)) ⊎ ((image ≢ []) × WasHealed kind ks image t lines))
 
 -- an image was not healed, for this reason
@@ -223,16 +223,16 @@ sink_span view old new = record { view = view; old = old; new = new }
 abbrev pub IsToldStop : {O : Type 0} → SinkSpan O → ℕ → Stop → Type 0
 IsToldStop s status stop.Words = (status ≡ 2) × (s.new ≡ s.old)
 IsToldStop s status stop.Load = (status ≡ 8) × (s.new ≡ s.old)
-IsToldStop s status (stop.Refused why) = Says (refusal_line why) 6 status (s.view s.old) (s.view s.new)
+IsToldStop s status (stop.Refused why) = SaysText (refusal_line why) 6 status (s.view s.old) (s.view s.new)
 IsToldStop s status (stop.Unhealed why) = SaysOrNot s.view (fault_line why) 11 status s.old s.new
 IsToldStop s status stop.Save = (status ≡ 5) × (s.new ≡ s.old)
 IsToldStop s status stop.Memory = (status ≡ 7) × (s.new ≡ s.old)
 
 -- how a run ended, and what was said of that
 abbrev pub IsEndTold : {S O : Type 0} → StoreKind S → Option (List ℕ) → RunSpan S → SinkSpan O → ℕ → Result (List ℕ) Stop → Type 0
-IsEndTold kind names t s status (Ok lines) = IsDone kind names t lines × Says lines 0 status (s.view s.old) (s.view s.new)
+IsEndTold kind names t s status (Ok lines) = HasHealed kind names t lines × SaysText lines 0 status (s.view s.old) (s.view s.new)
 IsEndTold kind names t s status (Err why) = IsEnd kind names t why × IsToldStop s status why
 
-pub record IsOver {S O : Type 0} (kind : StoreKind S) (names : Option (List ℕ)) (t : RunSpan S) (s : SinkSpan O) (status : ℕ) : Type 0 where
+pub record IsHealOver {S O : Type 0} (kind : StoreKind S) (names : Option (List ℕ)) (t : RunSpan S) (s : SinkSpan O) (status : ℕ) : Type 0 where
   pub ended : Result (List ℕ) Stop
   pub told : IsEndTold kind names t s status ended

@@ -37,10 +37,10 @@ abbrev pub refusal_line : LoadError → List ℕ
 refusal_line why = refusal_text why ++ line_feed ∷ []
 
 -- a front of a text was written, and no more
-abbrev pub WroteFront : List ℕ → List ℕ → Option (List ℕ) → Type 0
-WroteFront old text new = (front : List ℕ) × (back : List ℕ) × (text ≡ front ++ back) × (new ≡ Some (old ++ front))
+abbrev pub ReportFront : List ℕ → List ℕ → Option (List ℕ) → Type 0
+ReportFront old text new = (front : List ℕ) × (back : List ℕ) × (text ≡ front ++ back) × (new ≡ Some (old ++ front))
 
 -- all of a text was taken, or a front of it where the sink failed
-abbrev pub AllTaken : {E : Type 0} → List ℕ → List ℕ → Option (List ℕ) → Result (Unit {0}) E → Type 0
-AllTaken old text new (Ok u) = new ≡ Some (old ++ text)
-AllTaken old text new (Err e) = WroteFront old text new
+abbrev pub ReportTaken : {E : Type 0} → List ℕ → List ℕ → Option (List ℕ) → Result (Unit {0}) E → Type 0
+ReportTaken old text new (Ok u) = new ≡ Some (old ++ text)
+ReportTaken old text new (Err e) = ReportFront old text new

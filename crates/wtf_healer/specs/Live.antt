@@ -32,13 +32,13 @@ is_left lost p = not (lost p.server.0)
 
 -- u is the slice s with only its copies on servers that are left, of which there is one; each copy, also one on a lost server, lies
 -- in one of the eight files
-pub record IsLeft (lost : ℕ → Bool) (s u : Slice) : Type 0 where
+pub record HasCopiesLeft (lost : ℕ → Bool) (s u : Slice) : Type 0 where
   pub copies : pointers_of u ≡ filter (is_left lost) (pointers_of s)
   pub files : All (λ (p : Pointer). p.file < 8) (pointers_of s)
 
 abbrev pub IsLeftPart : (ℕ → Bool) → Part → Part → Type 0
 IsLeftPart lost Zero Zero = ⊤
-IsLeftPart lost (Held s) (Held u) = IsLeft lost s u
+IsLeftPart lost (Held s) (Held u) = HasCopiesLeft lost s u
 IsLeftPart lost Zero (Held u) = ⊥
 IsLeftPart lost (Held s) Zero = ⊥
 
@@ -58,7 +58,7 @@ AreLeft lost (e ∷ es) [] = ⊥
 -- entry of that, also one that is hidden or not seen, is left and has bytes that are told. A region has b bytes.
 pub record IsLeftList (b : ℕ) (told : Told) (lost : ℕ → Bool) (s : Slice) (under : List Entry) : Type 0 where
   pub slice : Slice
-  pub left : IsLeft lost s slice
+  pub left : HasCopiesLeft lost s slice
   pub list : List Entry
   pub decodes : lists_in b told slice ≡ Some list
   pub entries : AreLeft lost list under

@@ -40,14 +40,14 @@ list_over None under list = list
 list_over (Some s) under list = clip_list s.visible under ++ list
 
 -- the compact list of the same bytes at the same places, of a region whose base has the list `under`
-pub record IsShort (v : RegionValue) (under es : List Entry) : Type 0 where
+pub record IsCompacted (v : RegionValue) (under es : List Entry) : Type 0 where
   pub compact : IsCompact es
   pub origins : (x : ℕ) → origin es x ≡ origin (list_over v.base under v.list) x
   pub within : Within v.end es
   pub named : (P : List Place → Bool) → All (EntryBytes P) under → All (EntryBytes P) v.list → All (EntryBytes P) es
 
 -- no slice of a region is sparse, also none of the list in its base
-pub record IsSound {S : Type 0} (kind : StoreKind S) (old new : Dev S) (v : RegionValue) : Type 0 where
+pub record HasNoSparse {S : Type 0} (kind : StoreKind S) (old new : Dev S) (v : RegionValue) : Type 0 where
   pub under : List Entry
   pub read : IsBaseRead kind old new v.base under
   pub whole : is_to_heal (is_down_in old) old.settings.replicas under v ≡ false
@@ -58,22 +58,22 @@ pub record IsHealed {S : Type 0} (kind : StoreKind S) (old new : Dev S) (v : Reg
   pub read : IsBaseRead kind old new v.base under
   pub sparse : is_to_heal (is_down_in old) old.settings.replicas under v ≡ true
   pub short : List Entry
-  pub short_is : IsShort v under short
+  pub short_is : IsCompacted v under short
   pub restored : AreRestored kind old new short made.list made.bytes
 
 abbrev pub IsHealedOr : {S : Type 0} → StoreKind S → (old new : Dev S) → RegionValue → Option Restored → Type 0
-IsHealedOr kind old new v None = IsSound kind old new v
+IsHealedOr kind old new v None = HasNoSparse kind old new v
 IsHealedOr kind old new v (Some made) = IsHealed kind old new v made
 
 -- how many of its bytes were stored anew
-abbrev pub bytes_in : Option Restored → ℕ
-bytes_in None = 0
-bytes_in (Some made) = made.bytes
+abbrev pub bytes_restored : Option Restored → ℕ
+bytes_restored None = 0
+bytes_restored (Some made) = made.bytes
 
 -- all servers of the slice of a base are out, the last of them k
-abbrev pub LacksBase : {S : Type 0} → StoreKind S → Span S → Option Spill → ℕ → Type 0
-LacksBase kind t None k = ⊥
-LacksBase kind t (Some s) k = AreAllOut kind t s.slice k
+abbrev pub HealLacksBase : {S : Type 0} → StoreKind S → Span S → Option Spill → ℕ → Type 0
+HealLacksBase kind t None k = ⊥
+HealLacksBase kind t (Some s) k = AreAllOut kind t s.slice k
 
 -- what was read of the slice of a base from server k is no list, or one that names bytes outside the stores
 abbrev pub HasDamage : {S : Type 0} → StoreKind S → (old new : Dev S) → Option Spill → ℕ → Type 0
@@ -85,12 +85,12 @@ pub record LacksBytes {S : Type 0} (kind : StoreKind S) (old new : Dev S) (v : R
   pub under : List Entry
   pub read : IsBaseRead kind old new v.base under
   pub short : List Entry
-  pub short_is : IsShort v under short
+  pub short_is : IsCompacted v under short
   pub lacks : LacksEntry kind old new short k
 
 -- why a region was not healed; memory may be short at any time
 abbrev pub IsRegionFault : {S : Type 0} → StoreKind S → (old new : Dev S) → RegionValue → Fault → Type 0
-IsRegionFault kind old new v (fault.Read k) = LacksBase kind (between old new) v.base k.0 ⊎ LacksBytes kind old new v k.0
+IsRegionFault kind old new v (fault.Read k) = HealLacksBase kind (between old new) v.base k.0 ⊎ LacksBytes kind old new v k.0
 IsRegionFault kind old new v (fault.Damaged k) = HasDamage kind old new v.base k.0
 IsRegionFault kind old new v fault.Write = IsWriteFault kind (between old new) old.settings fault.Write
 IsRegionFault kind old new v fault.Memory = ⊤
@@ -143,7 +143,7 @@ pub record IsPutAt {S : Type 0} (kind : StoreKind S) (t : Dev S × Dev S) (w : M
 pub record IsLeftAt {S : Type 0} (kind : StoreKind S) (t : Dev S × Dev S) (w : Map) (key : Key) (was now : Healed) : Type 0 where
   pub changes : now.changes ≡ was.changes
   pub bytes : now.bytes ≡ was.bytes
-  pub sound : (i : InodeId) (r : ℕ) (v : RegionValue) → key ≡ Region i r → w key ≡ Some (value.Region v) → IsSound kind t.0 t.1 v
+  pub sound : (i : InodeId) (r : ℕ) (v : RegionValue) → key ≡ Region i r → w key ≡ Some (value.Region v) → HasNoSparse kind t.0 t.1 v
   pub grew : Grew kind t.0 t.1 0
 
 -- one key was looked at, in the time in which what was lent became what it is
@@ -158,7 +158,7 @@ pub record AreHealed {S : Type 0} (kind : StoreKind S) (old new : Dev S) (w : Ma
   pub each : All (IsPutFor kind old new w) puts
   pub once : AllPairs (λ (p q : Put). p.key ≢ q.key) puts
   pub others : (i : InodeId) (r : ℕ) (v : RegionValue) → w (Region i r) ≡ Some (value.Region v)
-      → Contains (map (λ (p : Put). p.key) puts) (record { inode = i; region = r }) ⊎ IsSound kind old new v
+      → Contains (map (λ (p : Put). p.key) puts) (record { inode = i; region = r }) ⊎ HasNoSparse kind old new v
   pub grew : Grew kind old new h.bytes
 
 -- why not all regions were healed: one of them was not

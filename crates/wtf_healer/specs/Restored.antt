@@ -33,14 +33,14 @@ pub record IsPlaced (e f : Entry) : Type 0 where
   pub len : f.len ≡ e.len
 
 -- and each byte of e that its copies on servers that are up told is told by all copies of f now
-pub record Keeps (down : ℕ → Bool) (told now : Told) (e f : Entry) : Type 0 where
+pub record KeepsToldBytes (down : ℕ → Bool) (told now : Told) (e f : Entry) : Type 0 where
   pub placed : IsPlaced e f
   pub bytes : (i b : ℕ) → i < e.len → meaning_up down told (part_origin e.part i) ≡ Some b → meaning now (part_origin f.part i) ≡ Some b
 
 -- the entries of a list, one by one
 abbrev pub AreKept : (ℕ → Bool) → Told → Told → List Entry → List Entry → Type 0
 AreKept down told now [] [] = ⊤
-AreKept down told now (e ∷ es) (f ∷ fs) = Keeps down told now e f × AreKept down told now es fs
+AreKept down told now (e ∷ es) (f ∷ fs) = KeepsToldBytes down told now e f × AreKept down told now es fs
 AreKept down told now [] (f ∷ fs) = ⊥
 AreKept down told now (e ∷ es) [] = ⊥
 
@@ -66,7 +66,7 @@ pub record IsStoredFor {S : Type 0} (kind : StoreKind S) (old new : Dev S) (e : 
 -- the entry f stands in the place of e, and no slice of it is sparse
 pub record IsRestored {S : Type 0} (kind : StoreKind S) (old new : Dev S) (e f : Entry) : Type 0 where
   pub placed : IsPlaced e f
-  pub keeps : TellUp kind (is_down_in old) (stores old) → Keeps (is_down_in old) (told_in kind old) (told_in kind new) e f
+  pub keeps : TellUp kind (is_down_in old) (stores old) → KeepsToldBytes (is_down_in old) (told_in kind old) (told_in kind new) e f
   pub whole : is_sparse_part (is_down_in old) old.settings.replicas f.part ≡ false
   pub inside : EntryBytes (inside_left kind new) f
   pub grew : Grew kind old new (sparse_bytes (is_down_in old) old.settings.replicas (e ∷ []))

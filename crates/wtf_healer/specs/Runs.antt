@@ -1,5 +1,6 @@
 -- What a run of the healer promises: which status it ends with, what it writes, and what it leaves of stores and keeper.
-use Rattle.std.specs.Prelude.{◌≡◌, ◌≢◌, ◌⊎◌, ℕ, ◌<◌, ◌+◌, ◌*◌, ◌^◌, Bool, true, false, List, [], ◌∷◌, ◌++◌, length, map, slice_index_or, nat_lt, if◌then◌else◌, Option, None, Some, ⊤}
+use Rattle.std.specs.Prelude.{◌≡◌, ◌≢◌, ◌⊎◌, ℕ, ◌<◌, ◌+◌, ◌*◌, ◌^◌, Bool, true, false, List, [], ◌∷◌, ◌++◌, length, map, slice_index_or, nat_lt, if◌then◌else◌}
+use Rattle.std.specs.Prelude.{Option, None, Some, ⊤}
 use Rattle.std.specs.List.{All, AllPairs, Contains, sum_by}
 use Rattle.std.specs.Option.{option_map}
 use Rattle.wtf_base.specs.declared.fault.Fault.{Fault}
@@ -36,18 +37,18 @@ use Rattle.wtf_region.specs.declared.cache.RegionKey.{RegionKey}
 use Rattle.wtf_region.specs.declared.dev.Dev.{Dev}
 use Rattle.wtf_region.specs.Devs.{stores, is_down_in}
 use Rattle.wtf_healer.specs.Bases.{UpTells}
-use Rattle.wtf_healer.specs.Lines.{done_lines, fault_line, refusal_line, WroteFront}
+use Rattle.wtf_healer.specs.Lines.{done_lines, fault_line, refusal_line, ReportFront}
 use Rattle.wtf_healer.specs.Live.{IsLiveTree}
-use Rattle.wtf_healer.specs.Regions.{IsShort, IsHealFault}
+use Rattle.wtf_healer.specs.Regions.{IsCompacted, IsHealFault}
 use Rattle.wtf_healer.specs.Spared.{AreSpared}
 use Rattle.wtf_healer.specs.Sparse.{is_to_heal, sparse_bytes}
-use Rattle.wtf_healer.specs.Words.{is_among}
+use Rattle.wtf_healer.specs.Words.{is_server_in}
 
 -- ---- statuses, and what is written
 
 -- the statuses of runs
-abbrev pub IsStatus : ℕ → Type 0
-IsStatus n = (n ≡ 0) ⊎ (n ≡ 2) ⊎ (n ≡ 4) ⊎ (n ≡ 5) ⊎ (n ≡ 6) ⊎ (n ≡ 7) ⊎ (n ≡ 8) ⊎ (n ≡ 11)
+abbrev pub IsHealStatus : ℕ → Type 0
+IsHealStatus n = (n ≡ 0) ⊎ (n ≡ 2) ⊎ (n ≡ 4) ⊎ (n ≡ 5) ⊎ (n ≡ 6) ⊎ (n ≡ 7) ⊎ (n ≡ 8) ⊎ (n ≡ 11)
 
 -- those of runs that write nothing
 abbrev pub IsQuiet : ℕ → Type 0
@@ -69,17 +70,17 @@ IsDue status text =
     ⊎ ((status ≡ 11) × (why : Fault) × (why ≢ fault.Memory) × (text ≡ fault_line why))
 
 -- it was written whole, or, with status 4, a front of the text that was due with another status
-abbrev pub HasWritten : ℕ → List ℕ → Option (List ℕ) → Type 0
-HasWritten status old new =
+abbrev pub WroteReport : ℕ → List ℕ → Option (List ℕ) → Type 0
+WroteReport status old new =
     (IsQuiet status × (new ≡ Some old))
     ⊎ ((due : List ℕ) × IsDue status due × (new ≡ Some (old ++ due)))
-    ⊎ ((status ≡ 4) × (instead : ℕ) × (due : List ℕ) × IsDue instead due × WroteFront old due new)
+    ⊎ ((status ≡ 4) × (instead : ℕ) × (due : List ℕ) × IsDue instead due × ReportFront old due new)
 
 -- a text was written whole, and the status is this one; or, with status 4, a front of it, as the sink failed
-pub record Says (text : List ℕ) (wanted status : ℕ) (old new : SinkView) : Type 0 where
+pub record SaysText (text : List ℕ) (wanted status : ℕ) (old new : SinkView) : Type 0 where
   pub status_is : (status ≡ wanted) ⊎ (status ≡ 4)
   pub whole : status ≡ wanted → (taken : List ℕ) → old.taken ≡ Some taken → new.taken ≡ Some (taken ++ text)
-  pub front : status ≡ 4 → (taken : List ℕ) → old.taken ≡ Some taken → WroteFront taken text new.taken
+  pub front : status ≡ 4 → (taken : List ℕ) → old.taken ≡ Some taken → ReportFront taken text new.taken
   pub cause : status ≡ 4 → Rose old.faults new.faults
   pub still : status ≢ 4 → new.faults ≡ old.faults
 
@@ -102,7 +103,7 @@ AreRefused (Some ks) (b ∷ bytes) stores = AreNotSpared ks (b ∷ bytes) stores
 pub record IsRefusedImage (ks : List ℕ) (size : ℕ → ℕ → ℕ) (bytes : List ℕ) : Type 0 where
   pub some : bytes ≢ []
   pub why : LoadError
-  pub refusal : IsRefusalWithout (is_among ks) size bytes why
+  pub refusal : IsRefusalWithout (is_server_in ks) size bytes why
   pub not_memory : why ≢ error.Memory
 
 -- ---- why a run fails
@@ -110,23 +111,23 @@ pub record IsRefusedImage (ks : List ℕ) (size : ℕ → ℕ → ℕ) (bytes : 
 -- In the closing sync the store of a server that is left failed, and then nothing was handed to the keeper; or the keeper failed.
 abbrev pub IsSaveFault : {S : Type 0} → StoreKind S → (handed : List (List ℕ) → Type 0) → List ℕ → (before after : List S) → KeeperView × KeeperView → Type 0
 IsSaveFault kind handed ks before after (old, new) =
-    ((k : ℕ) × (is_among ks k ≡ false) × HasRisen kind before after k × handed []) ⊎ Rose old.faults new.faults
+    ((k : ℕ) × (is_server_in ks k ≡ false) × HasRisen kind before after k × handed []) ⊎ Rose old.faults new.faults
 
 -- the stores of all servers of an image that are left were synced
 abbrev pub AreSynced : {S : Type 0} → StoreKind S → List ℕ → (before after : List S) → List ℕ → Type 0
 AreSynced kind ks before after bytes =
-    (x : ImageRows) → HasText x bytes → (k : ℕ) → k < x.header.servers → is_among ks k ≡ false → HasSynced kind before after k
+    (x : ImageRows) → HasText x bytes → (k : ℕ) → k < x.header.servers → is_server_in ks k ≡ false → HasSynced kind before after k
 
 -- no count of faults rose: not that of the sink, of a store, or of the keeper
-abbrev pub IsStill : {S : Type 0} → StoreKind S → (old new : SinkView × List S × KeeperView) → Type 0
-IsStill kind (sink, shelf, keeper) (sink', shelf', keeper') =
+abbrev pub NoFaultRose : {S : Type 0} → StoreKind S → (old new : SinkView × List S × KeeperView) → Type 0
+NoFaultRose kind (sink, shelf, keeper) (sink', shelf', keeper') =
     (Rose sink.faults sink'.faults → ⊥) × ((k : ℕ) → HasRisen kind shelf shelf' k → ⊥) × (Rose keeper.faults keeper'.faults → ⊥)
 
 -- these stores are lent, for these settings, while these servers are down
-pub record IsLent {S : Type 0} (shelf : List S) (settings : Settings) (ks : List ℕ) (dev : Dev S) : Type 0 where
+pub record AreStoresLent {S : Type 0} (shelf : List S) (settings : Settings) (ks : List ℕ) (dev : Dev S) : Type 0 where
   pub stores_are : stores dev ≡ shelf
   pub settings_are : dev.settings ≡ settings
-  pub down : (k : ℕ) → is_down_in dev k ≡ is_among ks k
+  pub down : (k : ℕ) → is_down_in dev k ≡ is_server_in ks k
 
 -- A region of the image was not healed: a list or bytes were not read, bytes were not stored, or what was read is no list of bytes
 -- inside the stores. That is what the fault says.
@@ -139,9 +140,9 @@ pub record HasFault {S : Type 0} (kind : StoreKind S) (ks : List ℕ) (old new :
   pub settings_are : AreSettingsOf rows settings
   pub spared : AreSpared ks settings (length old)
   pub before : Dev S
-  pub before_is : IsLent old settings ks before
+  pub before_is : AreStoresLent old settings ks before
   pub after : Dev S
-  pub after_is : IsLent new settings ks after
+  pub after_is : AreStoresLent new settings ks after
   pub cause : IsHealFault kind before after map why
 
 -- ---- what is healed
@@ -164,11 +165,11 @@ pub record IsWork (b n : ℕ) (told : Told) (lost : ℕ → Bool) (w : Map) (x :
   pub under_is : IsUnder b told lost was.base under
   pub sparse : is_to_heal lost n under was ≡ true
   pub short : List Entry
-  pub short_is : IsShort was under short
+  pub short_is : IsCompacted was under short
   pub bytes_are : x.bytes ≡ sparse_bytes lost n short
 
 -- a region of which no slice is sparse
-pub record IsWhole (b n : ℕ) (told : Told) (lost : ℕ → Bool) (v : RegionValue) : Type 0 where
+pub record IsWholeRegion (b n : ℕ) (told : Told) (lost : ℕ → Bool) (v : RegionValue) : Type 0 where
   pub under : List Entry
   pub under_is : IsUnder b told lost v.base under
   pub whole : is_to_heal lost n under v ≡ false
@@ -183,7 +184,7 @@ pub record AreToHeal (told : Told) (lost : ℕ → Bool) (bytes : List ℕ) (reg
   pub each : All (IsWork rows.header.region rows.header.replicas told lost map_is) work
   pub once : AllPairs (λ (x y : Work). x.key ≢ y.key) work
   pub others : (i : InodeId) (r : ℕ) (v : RegionValue) → map_is (Region i r) ≡ Some (value.Region v)
-      → Contains (map (λ (x : Work). x.key) work) (record { inode = i; region = r }) ⊎ IsWhole rows.header.region rows.header.replicas told lost v
+      → Contains (map (λ (x : Work). x.key) work) (record { inode = i; region = r }) ⊎ IsWholeRegion rows.header.region rows.header.replicas told lost v
   pub regions_are : regions ≡ length work
   pub anew_is : anew ≡ sum_by (λ (x : Work). x.bytes) work
 
@@ -193,7 +194,8 @@ pub record IsWholeImage (told : Told) (lost : ℕ → Bool) (bytes : List ℕ) :
   pub map : Map
   pub text : HasText rows bytes
   pub says : (q : Key) → option_map plain (map q) ≡ row_at rows q
-  pub whole : (i : InodeId) (r : ℕ) (v : RegionValue) → map (Region i r) ≡ Some (value.Region v) → IsWhole rows.header.region rows.header.replicas told lost v
+  pub whole : (i : InodeId) (r : ℕ) (v : RegionValue) → map (Region i r) ≡ Some (value.Region v)
+      → IsWholeRegion rows.header.region rows.header.replicas told lost v
 
 -- both have the same settings and the same next transaction
 pub record SameSettings (bytes kept : List ℕ) : Type 0 where
@@ -222,12 +224,12 @@ abbrev pub OnlyServersTell : Told → List ℕ → Type 0
 OnlyServersTell told bytes = (x : ImageRows) → HasText x bytes → (p : Place) (b : ℕ) → told p ≡ Some b → p.server < x.header.servers
 
 -- the numbers of installs of an image leave room for one more
-abbrev pub HasRoom : List ℕ → Type 0
-HasRoom bytes = (x : ImageRows) → HasText x bytes → x.header.installs < 2 ^ 62
+abbrev pub HasNextNumber : List ℕ → Type 0
+HasNextNumber bytes = (x : ImageRows) → HasText x bytes → x.header.installs < 2 ^ 62
 
 -- the stores of servers that are left tell their content, and the keeper tells what it holds and what it is handed
 pub record AreTelling {S : Type 0} (kind : StoreKind S) (ks : List ℕ) (shelf : List S) (keeper : KeeperView) (bytes : List ℕ) : Type 0 where
-  pub stores_tell : (k : ℕ) (d : S) → k < length shelf → is_among ks k ≡ false → (kind.view (slice_index_or shelf k d)).tells ≡ true
+  pub stores_tell : (k : ℕ) (d : S) → k < length shelf → is_server_in ks k ≡ false → (kind.view (slice_index_or shelf k d)).tells ≡ true
   pub keeper_tells : keeper.tells ≡ true
   pub held : keeper.held ≡ Some bytes
 
@@ -237,10 +239,10 @@ pub record Heals {S : Type 0} (kind : StoreKind S) (ks : List ℕ) (old new : Li
     (text : List ℕ) (written : Option (List ℕ)) : Type 0 where
   pub kept : List ℕ
   pub held : keeper.held ≡ Some kept
-  pub image : IsHealedImage (byte_at kind new) (size_in kind new) (is_among ks) t bytes kept
+  pub image : IsHealedImage (byte_at kind new) (size_in kind new) (is_server_in ks) t bytes kept
   pub regions : ℕ
   pub anew : ℕ
-  pub counted : AreToHeal (byte_at kind old) (is_among ks) bytes regions anew
+  pub counted : AreToHeal (byte_at kind old) (is_server_in ks) bytes regions anew
   pub wrote : written ≡ Some (text ++ done_lines regions anew)
   -- all regions were healed in one install, and where none was there is none
   pub installs : (x y : ImageRows) → HasText x bytes → HasText y kept → y.header.installs ≡ x.header.installs + (if nat_lt 0 regions then 1 else 0)

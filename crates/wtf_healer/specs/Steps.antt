@@ -18,11 +18,11 @@ use Rattle.wtf_region.specs.declared.dev.Dev.{Dev}
 use Rattle.wtf_region.specs.Devs.{stores, GoesOn, between}
 use Rattle.wtf_healer.specs.Regions.{CanHeal}
 use Rattle.wtf_healer.specs.Restored.{OnlyStored}
-use Rattle.wtf_healer.specs.Runs.{Says}
+use Rattle.wtf_healer.specs.Runs.{SaysText}
 
 -- a text was said, with this status, or no memory was had for it, and nothing was written
 abbrev pub SaysOrNot : {O : Type 0} → (view : O → SinkView) → (text : List ℕ) → (wanted status : ℕ) → (old new : O) → Type 0
-SaysOrNot view text wanted status old new = ((status ≡ 7) × (new ≡ old)) ⊎ Says text wanted status (view old) (view new)
+SaysOrNot view text wanted status old new = ((status ≡ 7) × (new ≡ old)) ⊎ SaysText text wanted status (view old) (view new)
 
 -- a store after an install of all of these changes, or the same where there are none
 pub record IsPutIn (changes : List (Change Key Delta)) (old new : Store Key Value) : Type 0 where

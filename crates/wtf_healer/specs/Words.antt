@@ -4,12 +4,12 @@ use Rattle.std.specs.List.{list_any}
 use Rattle.wtf_lex.specs.Numbers.{number_within}
 
 -- a server is one of these
-abbrev pub is_among : List ℕ → ℕ → Bool
-is_among ks k = list_any (nat_eq k) ks
+abbrev pub is_server_in : List ℕ → ℕ → Bool
+is_server_in ks k = list_any (nat_eq k) ks
 
 abbrev pub with_server : List ℕ → Option ℕ → Option (List ℕ)
 with_server ks None = None
-with_server ks (Some k) = if is_among ks k then None else Some (k ∷ ks)
+with_server ks (Some k) = if is_server_in ks k then None else Some (k ∷ ks)
 
 -- these servers and that of one word more: a number up to 15, which is none of theirs
 abbrev pub with_word : Option (List ℕ) → List ℕ → Option (List ℕ)

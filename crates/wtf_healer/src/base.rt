@@ -11,7 +11,7 @@ ghost use Rattle.wtf_image.specs.Rules.{lies_inside_without};
 ghost use Rattle.wtf_overlay.specs.Spilled.{decoded};
 ghost use Rattle.wtf_region.specs.Devs.{IsSoundDev, GoesOn, stores, is_down_in, between};
 ghost use Rattle.wtf_region.specs.Showing.{OnlyRead};
-ghost use Rattle.wtf_healer.specs.Bases.{slice_lies, part_lies, list_lies, lies_in, inside_left, IsListIn, IsNoListIn, IsListRead, IsBaseRead, IsListFault, IsBaseFault};
+ghost use Rattle.wtf_healer.specs.Bases.{slice_lies, part_lies, list_lies, list_lies_lent, inside_left, IsListIn, IsNoListIn, IsListRead, IsBaseRead, IsListFault, IsBaseFault};
 
 use std::alloc::Global;
 use wtf_base::{Fault, Pointer, ServerId, Slice};

@@ -5,7 +5,7 @@ ghost use Rattle.wtf_base.specs.declared.fault.Fault.TheVariants as fault;
 ghost use Rattle.wtf_image.specs.declared.error.LoadError.TheVariants as error;
 ghost use Rattle.wtf_healer.specs.Ends.{sink_span, IsToldStop};
 ghost use Rattle.wtf_healer.specs.Lines.{fault_line, refusal_line};
-ghost use Rattle.wtf_healer.specs.Runs.{Says};
+ghost use Rattle.wtf_healer.specs.Runs.{SaysText};
 ghost use Rattle.wtf_healer.specs.Steps.{SaysOrNot};
 ghost use Rattle.wtf_healer.specs.declared.ends.Stop.TheVariants as stop;
 
@@ -56,7 +56,7 @@ pub(crate) enum Stop {
 /// Writes a text, and answers this status.
 fn say<O: Sink>(out: &mut O, text: &[u8], status: u8) -> u8
     requires { status ≢ 4 }
-    ensures { Says text.now status result (O.view out.old) (O.view out.new) }
+    ensures { SaysText text.now status result (O.view out.old) (O.view out.new) }
 {
     match write_all(out, text) {
         Ok(()) => status,
@@ -67,7 +67,7 @@ fn say<O: Sink>(out: &mut O, text: &[u8], status: u8) -> u8
 /// Writes why an image is refused, and answers the status.
 fn tell_refusal<O: Sink>(out: &mut O, why: LoadError) -> u8
     requires { why ≢ error.Memory }
-    ensures { Says (refusal_line why) 6 result (O.view out.old) (O.view out.new) }
+    ensures { SaysText (refusal_line why) 6 result (O.view out.old) (O.view out.new) }
 {
     let line = refusal_line(why);
     say(out, line, IMAGE_REFUSED)
@@ -107,7 +107,7 @@ fn tell_stop<O: Sink>(alloc: Global, out: &mut O, why: Stop) -> u8
 /// Writes how a run ended, and answers the status.
 pub(crate) fn tell<O: Sink>(alloc: Global, out: &mut O, ended: Result<Vec<u8>, Stop>) -> u8
     requires { IfErr ended (λ why. why ≢ stop.Refused error.Memory) }
-    ensures done { IfOk ended (λ lines. Says lines.items 0 result (O.view out.old) (O.view out.new)) }
+    ensures done { IfOk ended (λ lines. SaysText lines.items 0 result (O.view out.old) (O.view out.new)) }
     ensures stopped { IfErr ended (IsToldStop (sink_span O.view out.old out.new) result) }
 {
     match ended {

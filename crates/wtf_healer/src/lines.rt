@@ -4,7 +4,7 @@ ghost use Rattle.std.specs.Prelude.{◌≡◌, ◌≢◌, ◌≤◌, ◌++◌, �
 ghost use Rattle.wtf_base.specs.declared.fault.Fault.TheVariants as fault;
 ghost use Rattle.wtf_dev.specs.Counts.{Rose};
 ghost use Rattle.wtf_image.specs.declared.error.LoadError.TheVariants as error;
-ghost use Rattle.wtf_healer.specs.Lines.{AllTaken, numbered, done_lines, fault_line, refusal_line};
+ghost use Rattle.wtf_healer.specs.Lines.{ReportTaken, numbered, done_lines, fault_line, refusal_line};
 
 use itoa::Buffer;
 use std::alloc::Global;
@@ -15,7 +15,7 @@ use wtf_image::LoadError;
 /// Writes all of a text.
 pub(crate) fn write_all<O: Sink>(out: &mut O, text: &[u8]) -> Result<(), Failed>
     ensures told { (old : List ℕ) → (O.view out.old).taken ≡ Some old →
-        AllTaken old text.now (O.view out.new).taken result }
+        ReportTaken old text.now (O.view out.new).taken result }
     ensures faults { (O.view out.old).faults ≤ (O.view out.new).faults }
     ensures steady { OnOk result ((O.view out.new).faults ≡ (O.view out.old).faults) }
     ensures cause { OnErr result (Rose (O.view out.old).faults (O.view out.new).faults) }

@@ -7,12 +7,12 @@ ghost use Rattle.wtf_dev.specs.Each.{EachFollows};
 ghost use Rattle.wtf_image.specs.Rules.{size_in};
 ghost use Rattle.wtf_model.specs.Tree.{Tree};
 ghost use Rattle.wtf_replica.specs.Bytes.{byte_at};
-ghost use Rattle.wtf_healer.specs.Ends.{AreHanded, AreLostSame, GoesBy, run_span, sink_span, IsOver, IsLoadedFor, IsLoadStop, WasHealed, IsStop, IsDone, IsEnd};
+ghost use Rattle.wtf_healer.specs.Ends.{AreHanded, AreLostSame, GoesBy, run_span, sink_span, IsHealOver, IsLoadedFor, IsLoadStop, WasHealed, IsStop, HasHealed, IsEnd};
 ghost use Rattle.wtf_healer.specs.Lines.{done_lines, fault_line};
 ghost use Rattle.wtf_healer.specs.Live.{IsLiveTree};
-ghost use Rattle.wtf_healer.specs.Runs.{IsStatus, IsQuiet, IsUnkept, IsUntouched, HasWritten, AreRefused, IsRefusedImage, IsSaveFault, AreSynced, HasFault, HasRoom, AreTelling, Heals, IsStill, OnlyServersTell};
+ghost use Rattle.wtf_healer.specs.Runs.{IsHealStatus, IsQuiet, IsUnkept, IsUntouched, WroteReport, AreRefused, IsRefusedImage, IsSaveFault, AreSynced, HasFault, HasNextNumber, AreTelling, Heals, NoFaultRose, OnlyServersTell};
 ghost use Rattle.wtf_healer.specs.Spared.{IsLostOf};
-ghost use Rattle.wtf_healer.specs.Words.{lost_in, is_among};
+ghost use Rattle.wtf_healer.specs.Words.{lost_in, is_server_in};
 ghost use Rattle.wtf_healer.specs.declared.ends.Stop.TheVariants as stop;
 
 use crate::ends::{Stop, tell};
@@ -97,7 +97,7 @@ fn run<P: Sink, S: SliceStore, K: Keeper>(
     keeper: &mut K,
     progress: &mut P,
 ) -> Result<Vec<u8>, Stop>
-    ensures done { IfOk result (λ lines. IsDone S.kind (lost_in (map string_bytes words.now))
+    ensures done { IfOk result (λ lines. HasHealed S.kind (lost_in (map string_bytes words.now))
         (run_span K.view K.follows (shelf.old, keeper.old) (shelf.new, keeper.new)) lines.items) }
     ensures stopped { IfErr result (IsEnd S.kind (lost_in (map string_bytes words.now))
         (run_span K.view K.follows (shelf.old, keeper.old) (shelf.new, keeper.new))) }
@@ -129,7 +129,7 @@ fn heal_and_tell<O: Sink, P: Sink, S: SliceStore, K: Keeper>(
     keeper: &mut K,
     progress: &mut P,
 ) -> u8
-    ensures over { IsOver S.kind (lost_in (map string_bytes words.now))
+    ensures over { IsHealOver S.kind (lost_in (map string_bytes words.now))
         (run_span K.view K.follows (shelf.old, keeper.old) (shelf.new, keeper.new))
         (sink_span O.view out.old out.new) result }
     ensures goes { GoesBy S.kind (lost_in (map string_bytes words.now))
@@ -159,7 +159,7 @@ pub fn wtf_heal<O: Sink, P: Sink, S: SliceStore, K: Keeper>(
     keeper: &mut K,
     progress: &mut P,
 ) -> u8
-    ensures statuses { IsStatus result }
+    ensures statuses { IsHealStatus result }
     ensures words { lost_in (map string_bytes words.now) ≡ None → result ≡ 2 }
     ensures refused { (held : List ℕ) → (K.view keeper.old).held ≡ Some held →
         (result ≡ 2) ↔ ((result ≢ 7) × (result ≢ 8) ×
@@ -169,7 +169,7 @@ pub fn wtf_heal<O: Sink, P: Sink, S: SliceStore, K: Keeper>(
         (result ≡ 6) ↔ ((result ≢ 2) × (result ≢ 4) × (result ≢ 7) × (result ≢ 8) ×
         IsRefusedImage ks (size_in S.kind shelf.old) held) }
     ensures wrote { (text : List ℕ) → (O.view out.old).taken ≡ Some text →
-        HasWritten result text (O.view out.new).taken }
+        WroteReport result text (O.view out.new).taken }
     ensures quiet { IsQuiet result → out.new ≡ out.old }
     ensures still { result ≢ 4 → (O.view out.new).faults ≡ (O.view out.old).faults }
     ensures untouched { IsUntouched result → shelf.new ≡ shelf.old }
@@ -202,16 +202,16 @@ pub fn wtf_heal<O: Sink, P: Sink, S: SliceStore, K: Keeper>(
         AreLostSame ks shelf.old shelf.new }
     ensures healed { (held ks : List ℕ) (t : Tree) →
         lost_in (map string_bytes words.now) ≡ Some ks → held ≢ [] →
-        AreTelling S.kind ks shelf.old (K.view keeper.old) held → HasRoom held →
-        IsLiveTree (byte_at S.kind shelf.old) (is_among ks) held t → result ≡ 0 →
+        AreTelling S.kind ks shelf.old (K.view keeper.old) held → HasNextNumber held →
+        IsLiveTree (byte_at S.kind shelf.old) (is_server_in ks) held t → result ≡ 0 →
         (text : List ℕ) → (O.view out.old).taken ≡ Some text →
         Heals S.kind ks shelf.old shelf.new (K.view keeper.new) t held text (O.view out.new).taken }
     ensures complete { (held ks : List ℕ) (t : Tree) →
         lost_in (map string_bytes words.now) ≡ Some ks → held ≢ [] →
         AreTelling S.kind ks shelf.old (K.view keeper.old) held →
-        IsLiveTree (byte_at S.kind shelf.old) (is_among ks) held t →
+        IsLiveTree (byte_at S.kind shelf.old) (is_server_in ks) held t →
         OnlyServersTell (byte_at S.kind shelf.old) held →
-        IsStill S.kind (O.view out.old, shelf.old, K.view keeper.old)
+        NoFaultRose S.kind (O.view out.old, shelf.old, K.view keeper.old)
         (O.view out.new, shelf.new, K.view keeper.new) →
         (result ≡ 0) ⊎ (result ≡ 2) ⊎ (result ≡ 6) ⊎ (result ≡ 7) }
 {

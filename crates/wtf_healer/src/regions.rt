@@ -9,7 +9,7 @@ ghost use Rattle.wtf_meta.specs.Maps.{metadata_at};
 ghost use Rattle.wtf_region.specs.Devs.{IsSoundDev, GoesOn, between};
 ghost use Rattle.wtf_healer.specs.Bases.{inside_left};
 ghost use Rattle.wtf_healer.specs.Restored.{Grew, OnlyStored};
-ghost use Rattle.wtf_healer.specs.Regions.{Put, change_of, IsPutOf, bytes_in, list_over, IsShort, IsHealedOr, IsRegionFault, CanHeal, IsHealedAt, AreHealed, IsHealFault};
+ghost use Rattle.wtf_healer.specs.Regions.{Put, change_of, IsPutOf, bytes_restored, list_over, IsCompacted, IsHealedOr, IsRegionFault, CanHeal, IsHealedAt, AreHealed, IsHealFault};
 ghost use Rattle.std.specs.Option.{option_copied};
 ghost use Rattle.wtf_meta.specs.FileEdits.{region_of};
 
@@ -38,7 +38,7 @@ pub(crate) struct Healed {
 
 /// What a region shows of the list under it and of its own entries, as a compact list.
 fn short_list(under: &Overlay, value: &RegionValue) -> Result<Overlay, Fault>
-    ensures short { IfOk result (IsShort value.now under.now) }
+    ensures short { IfOk result (IsCompacted value.now under.now) }
     ensures fault { IfErr result (λ why. why ≡ Fault.Memory) }
 {
     let whole = match whole_list(under, value.base, &value.list) {
@@ -80,7 +80,7 @@ fn healed_list<S: SliceStore>(
     requires region { key.region < MAX_REGIONS }
     requires size { value.now.end ≤ dev.old.settings.region }
     ensures healed { IfOk result (IsHealedOr S.kind dev.old dev.new value.now) }
-    ensures grew { IfOk result (λ made. Grew S.kind dev.old dev.new (bytes_in made)) }
+    ensures grew { IfOk result (λ made. Grew S.kind dev.old dev.new (bytes_restored made)) }
     ensures fault { IfErr result (IsRegionFault S.kind dev.old dev.new value.now) }
     ensures stores { OnlyStored S.kind (between dev.old dev.new) }
     ensures dev { GoesOn S.kind dev.old dev.new [] }

@@ -13,7 +13,8 @@ returns c = λ last e.
     let t2 = c.push_line-2.new.text.items in
     let t3 = c.push_line-3.new.text.items in
     let t4 = c.push_number.new.text.items in
-    let one = text-more old old t1 [] last (sym (append-nil old)) (c.in_ok-push_line.ensures ∙ ap (λ (l : List ℕ). old ++ (l ++ line_feed ∷ [])) (append-nil c.args.end.now ∙ sym e)) in
+    let one = text-more old old t1 [] last (sym (append-nil old))
+    (c.in_ok-push_line.ensures ∙ ap (λ (l : List ℕ). old ++ (l ++ line_feed ∷ [])) (append-nil c.args.end.now ∙ sym e)) in
     let two = text-more old t1 t2 (last ∷ []) begin_line one c.in_ok-push_line-2.ensures in
     let three = text-more old t2 t3 (last ∷ begin_line ∷ []) (open_line path) two
     (c.in_ok-push_line-3.ensures ∙ ap (λ (p : List ℕ). t2 ++ ((codes "c0 open f0 " ++ p) ++ line_feed ∷ [])) c.as_bytes.ensures.value) in

@@ -1,7 +1,7 @@
 use Rattle.std.proofs.Common.{◌++◌, ◌∷◌, [], ℕ, List, codes, sym, ap, ◌∙◌, append_assoc}
 use Rattle.std.proofs.lemmas.List.{append-nil}
 use Rattle.wtf_script.specs.ScriptLines.{line_feed}
-use Rattle.wtf_carry.specs.Asked.{Asked, text_of, begin_line, create_line, open_line}
+use Rattle.wtf_carry.specs.Asked.{Asked, asked_text, begin_line, create_line, open_line}
 use Rattle.wtf_carry.specs.Ways.{mkdirs}
 use Rattle.wtf_carry.proofs.Carried.{text-more, texts-more}
 use Rattle.wtf_carry.proofs.putting.push_head.Goals as goal
@@ -25,5 +25,6 @@ returns c =
       is_path = c.as_bytes.ensures.well_formed;
       up = ways.up;
       way = ways.is;
-      new_is = four ∙ ap (λ (xs : List Asked). old ++ text_of (begin_line ∷ xs)) (append_assoc (mkdirs ways.up) (create_line path ∷ []) (open_line path ∷ []));
+      new_is = four ∙ ap (λ (xs : List Asked). old ++ asked_text (begin_line ∷ xs))
+          (append_assoc (mkdirs ways.up) (create_line path ∷ []) (open_line path ∷ []));
     }

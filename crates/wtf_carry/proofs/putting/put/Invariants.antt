@@ -10,7 +10,8 @@ invariant-loop-text g l = record {
   few : l.i ≤ l.at;
   from_faults : (g.I.Source.view l.fn.from).faults ≤ (g.I.Source.view l.from).faults;
   out_faults : (g.O.Sink.view l.fn.out).faults ≤ (g.O.Sink.view l.out).faults;
-  sofar : (all old : List ℕ) → (g.I.Source.view l.fn.from).rest ≡ Some all → (g.O.Sink.view l.fn.out).taken ≡ Some old → Sofar l.path all old l.i l.at (g.I.Source.view l.from).rest (g.O.Sink.view l.out).taken;
+  sofar : (all old : List ℕ) → (g.I.Source.view l.fn.from).rest ≡ Some all → (g.O.Sink.view l.fn.out).taken ≡ Some old
+      → Sofar l.path all old l.i l.at (g.I.Source.view l.from).rest (g.O.Sink.view l.out).taken;
 }
 
 abbrev pub decreases-loop-text : goal.decreases-loop-text

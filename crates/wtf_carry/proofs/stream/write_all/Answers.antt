@@ -11,5 +11,6 @@ loop-at-preserved g c =
       counted = omega (arith, c.loop-at.invariant.counted, c.in-Ok.ensures.faults);
       told = λ old h.
           let w = c.in-Ok.ensures.told (old ++ take at text) (c.loop-at.invariant.told old h) in
-          w ∙ ap Some (ap (λ (p : List ℕ). (old ++ take at text) ++ take c.in-Ok.n p) c.split_at.ensures.back ∙ append_assoc old (take at text) (take c.in-Ok.n (drop at text)) ∙ ap (λ (l : List ℕ). old ++ l) (sym (take-add at c.in-Ok.n text)));
+          w ∙ ap Some (ap (λ (p : List ℕ). (old ++ take at text) ++ take c.in-Ok.n p) c.split_at.ensures.back
+          ∙ append_assoc old (take at text) (take c.in-Ok.n (drop at text)) ∙ ap (λ (l : List ℕ). old ++ l) (sym (take-add at c.in-Ok.n text)));
     }

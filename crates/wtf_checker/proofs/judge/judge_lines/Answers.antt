@@ -6,7 +6,7 @@ use Rattle.wtf_machine.specs.Machines.{machine_in}
 use Rattle.wtf_checker.specs.declared.stop.Stop.{Stop}
 use Rattle.wtf_checker.specs.declared.verdict.Verdict.{Verdict}
 use Rattle.wtf_checker.specs.Reading.{Next, HasLess}
-use Rattle.wtf_checker.specs.Lawful.{IsRefused, line_from}
+use Rattle.wtf_checker.specs.Lawful.{RefusesAnswer, event_or_bad}
 use Rattle.wtf_checker.specs.Judging.{IsAnswered, Judges}
 use Rattle.wtf_checker.proofs.Counts.{answered_within}
 use Rattle.wtf_checker.proofs.Scripted.{reading_stopped}
@@ -17,7 +17,7 @@ abbrev Read : Type 0
 Read = Result (Option (Result Event Kind)) Stop
 
 abbrev IsFound : Machine → Result Event Kind → List ℕ → Machine → Option (Bor (List ℕ)) → Type 0
-IsFound m asked left m' o = MatchOption o (IsRefused m (line_from asked) left) (λ rest. IsAnswered m (line_from asked) left rest.now m')
+IsFound m asked left m' o = MatchOption o (RefusesAnswer m (event_or_bad asked) left) (λ rest. IsAnswered m (event_or_bad asked) left rest.now m')
 
 pub loop-asked-init : goal.loop-asked-init
 loop-asked-init g c = record {

@@ -25,6 +25,8 @@ returns-clause-fault g c =
     (omega (arith, c.fetch_all.ensures.whole, c.in-Ok.ensures.zeros, c.len.ensures.value, c.in-Ok.bytes.ok)) in
     let one = rw c.deref.ensures.value at c.list_of.ensures.fault in
     let two = rw whole at one in
-    IfErr-weaker c.list_of.result (IsNoListIn kind c.fetch_all.new.dev out c.in-Ok-fetch_all.from.0) (IsListFault kind c.args.dev.now c.fetch_all.new.dev c.args.slice.now)
-    (λ why h. damaged_left g.met.S.SliceStore.laws c.args.dev.now c.fetch_all.new.dev c.args.slice.now out c.in-Ok-fetch_all.from.0 c.in-Ok-fetch_all.ensures.fetched
+    IfErr-weaker c.list_of.result (IsNoListIn kind c.fetch_all.new.dev out c.in-Ok-fetch_all.from.0)
+    (IsListFault kind c.args.dev.now c.fetch_all.new.dev c.args.slice.now)
+    (λ why h. damaged_left g.met.S.SliceStore.laws c.args.dev.now c.fetch_all.new.dev c.args.slice.now out c.in-Ok-fetch_all.from.0
+    c.in-Ok-fetch_all.ensures.fetched
     c.fetch_all.ensures.whole why h) two

@@ -13,5 +13,6 @@ loop-i-preserved g c =
 
 pub returns-then-not-copy_lies : goal.returns-then-not-copy_lies
 returns-then-not-copy_lies g c =
-    sym (all_not (lies_inside_without (is_down c.args.replicas.now) c.args.servers (size_in g.S.SliceStore.kind c.args.shelf.now)) (pointers_of c.args.slice.now)
+    sym (all_not (lies_inside_without (is_down c.args.replicas.now) c.args.servers (size_in g.S.SliceStore.kind c.args.shelf.now))
+    (pointers_of c.args.slice.now)
     c.loop-i.i c.pointer.result c.pointer.ensures.value (sym c.copy_lies.ensures ∙ c.if-not-copy_lies.true))

@@ -11,7 +11,8 @@ show-requires-clause-readable g c =
 
 pub returns-in-Ok-clause-live : goal.returns-in-Ok-clause-live
 returns-in-Ok-clause-live g c =
-    piece_gives (meaning_up (is_down_in c.args.dev.now) (byte_at g.S.SliceStore.kind (stores c.args.dev.now))) c.args.e.len c.args.e.len c.of.result c.args.e.part
+    piece_gives (meaning_up (is_down_in c.args.dev.now)
+    (byte_at g.S.SliceStore.kind (stores c.args.dev.now))) c.args.e.len c.args.e.len c.of.result c.args.e.part
     [] c.show.new.out.items c.of.ensures.part c.of.ensures.len refl (rw c.new-bytes.ensures.items at c.in-Ok.ensures.live)
 
 pub returns-in-Err-clause-fault : goal.returns-in-Err-clause-fault

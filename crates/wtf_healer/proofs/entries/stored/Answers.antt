@@ -12,7 +12,8 @@ returns-in-Err-clause-fault g c = anew_read g.met.S.SliceStore.laws c.args.dev.n
 
 pub returns-clause-fault : goal.returns-clause-fault
 returns-clause-fault g c =
-    IfErr-weaker c.store_bytes-made.result (IsWriteFault g.S.SliceStore.kind (between c.bytes_of.new.dev c.store_bytes-made.new.dev) c.bytes_of.new.dev.settings)
+    IfErr-weaker c.store_bytes-made.result (IsWriteFault g.S.SliceStore.kind
+    (between c.bytes_of.new.dev c.store_bytes-made.new.dev) c.bytes_of.new.dev.settings)
     (IsAnewFault g.S.SliceStore.kind c.args.dev.now c.store_bytes-made.new.dev c.args.e)
     (λ why h. anew_write g.met.S.SliceStore.laws c.args.dev.now c.bytes_of.new.dev c.store_bytes-made.new.dev c.bytes_of.ensures.dev c.args.e why h)
     c.store_bytes-made.ensures.fault

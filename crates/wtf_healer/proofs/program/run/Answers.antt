@@ -1,7 +1,7 @@
 use Rattle.std.proofs.Common.{[], map, sym, ◌∙◌, Global}
 use Rattle.std.specs.Prelude.{string_bytes}
 use Rattle.std.proofs.lemmas.Result.{IfOk-weaker, IfErr-weaker}
-use Rattle.wtf_healer.specs.Ends.{run_span, WasHealed, IsStop, IsDone, IsEnd}
+use Rattle.wtf_healer.specs.Ends.{run_span, WasHealed, IsStop, HasHealed, IsEnd}
 use Rattle.wtf_healer.specs.Words.{lost_in}
 use Rattle.wtf_healer.proofs.Stopping.{some_bytes, done_late, end_late, goes_late}
 use Rattle.wtf_healer.proofs.program.run.Goals as goal
@@ -18,7 +18,7 @@ returns-clause-done g c =
     let image = c.as_slice.result.now in
     let names = lost_in (map (string_bytes {Z = Global}) c.args.words.now) in
     IfOk-weaker ended.result (λ v. WasHealed kind ks image (run_span view follows (c.args.shelf.now, b) (ended.new.shelf, ended.new.keeper)) v.items)
-    (λ v. IsDone kind names (run_span view follows (c.args.shelf.now, a) (ended.new.shelf, ended.new.keeper)) v.items)
+    (λ v. HasHealed kind names (run_span view follows (c.args.shelf.now, a) (ended.new.shelf, ended.new.keeper)) v.items)
     (λ v h. done_late kind view follows g.met.K.Keeper.follows_on a b ended.new.keeper c.load.ensures.follows
     (g.met.K.Keeper.keeps a b [] c.load.ensures.follows) c.args.shelf.now ended.new.shelf names ks image
     (record { named = c.in-Some.ensures.1; held = λ bytes e. c.as_slice.ensures.value ∙ c.in-Ok.ensures.bytes bytes e })

@@ -12,16 +12,19 @@ use Rattle.wtf_healer.proofs.regions.heal_all.Goals as goal
 
 pub loop-at-init : goal.loop-at-init
 loop-at-init g c =
-    pass_begins g.met.S.SliceStore.laws c.args.kv.now c.args.dev.now c.requires.sound (option_copied c.next_key-at.result) c.next_key-at.ensures c.none-healed.result
+    pass_begins g.met.S.SliceStore.laws c.args.kv.now c.args.dev.now c.requires.sound
+    (option_copied c.next_key-at.result) c.next_key-at.ensures c.none-healed.result
     c.none-healed.ensures.changes c.none-healed.ensures.bytes
 
 pub heal_at-requires-clause-can : goal.heal_at-requires-clause-can
 heal_at-requires-clause-can g c =
-    can_later g.met.S.SliceStore.laws c.args.dev.now c.loop-at.dev c.requires.sound c.loop-at.invariant.goes (metadata_at c.args.kv.now c.args.kv.now.number) c.requires.can
+    can_later g.met.S.SliceStore.laws c.args.dev.now c.loop-at.dev c.requires.sound c.loop-at.invariant.goes
+    (metadata_at c.args.kv.now c.args.kv.now.number) c.requires.can
 
 pub returns-in-Err-clause-fault : goal.returns-in-Err-clause-fault
 returns-in-Err-clause-fault g c =
-    heal_since g.met.S.SliceStore.laws c.args.dev.now c.loop-at.dev c.heal_at.new.dev c.loop-at.invariant.goes (metadata_at c.args.kv.now c.args.kv.now.number) c.in-Err.why
+    heal_since g.met.S.SliceStore.laws c.args.dev.now c.loop-at.dev c.heal_at.new.dev c.loop-at.invariant.goes
+    (metadata_at c.args.kv.now c.args.kv.now.number) c.in-Err.why
     c.in-Err.ensures.fault
 
 pub returns-in-Err-clause-dev : goal.returns-in-Err-clause-dev
@@ -45,7 +48,8 @@ loop-at-preserved g c =
     let here : option_copied c.loop-at.at ≡ Some k = ap option_copied c.in-Some.is in
     let walked : Passed g.S.SliceStore.kind c.args.dev.now c.loop-at.dev kv (Some k) c.loop-at.healed =
     subst (λ o. Passed g.S.SliceStore.kind c.args.dev.now c.loop-at.dev kv o c.loop-at.healed) here c.loop-at.invariant in
-    pass_on g.met.S.SliceStore.laws kv c.args.dev.now c.loop-at.dev c.heal_at.new.dev k (option_copied c.next_key-at-in-Some.result) c.next_key-at-in-Some.ensures
+    pass_on g.met.S.SliceStore.laws kv c.args.dev.now c.loop-at.dev c.heal_at.new.dev k
+    (option_copied c.next_key-at-in-Some.result) c.next_key-at-in-Some.ensures
     c.loop-at.healed c.heal_at.new.healed walked c.heal_at.ensures.dev c.heal_at.ensures.stores c.in-Ok.ensures.at
 
 pub returns-clause-healed : goal.returns-clause-healed

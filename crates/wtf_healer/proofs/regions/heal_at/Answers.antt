@@ -3,7 +3,7 @@ use Rattle.std.specs.Option.{option_copied}
 use Rattle.wtf_values.specs.declared.key.Key.{Key}
 use Rattle.wtf_meta.specs.FileEdits.{region_of}
 use Rattle.wtf_meta.specs.Maps.{metadata_at}
-use Rattle.wtf_healer.specs.Regions.{IsHealedOr, IsPutAt, bytes_in}
+use Rattle.wtf_healer.specs.Regions.{IsHealedOr, IsPutAt, bytes_restored}
 use Rattle.wtf_healer.specs.Restored.{Grew}
 use Rattle.wtf_healer.specs.declared.entries.Restored.{Restored}
 use Rattle.wtf_healer.proofs.Passing.{region_is, put_at}
@@ -42,4 +42,4 @@ returns-clause-at g c =
     (sym (ap w c.in-Region.is) ∙ region_is (w c.args.key.now) v is)
     (subst (λ (o : Option Restored). IsHealedOr kind old new v o) c.in-Some-made.is c.in-Ok.ensures.healed)
     put.1 put.2 c.in-Ok-add.ensures.bytes
-    (subst (λ (o : Option Restored). Grew kind old new (bytes_in o)) c.in-Some-made.is c.in-Ok.ensures.grew)))
+    (subst (λ (o : Option Restored). Grew kind old new (bytes_restored o)) c.in-Some-made.is c.in-Ok.ensures.grew)))
