@@ -4,13 +4,13 @@ ghost use Rattle.std.specs.Prelude.{◌≤◌};
 ghost use Rattle.wtf_model.specs.Form.{IsFormEvent};
 ghost use Rattle.wtf_machine.specs.Machines.{machine_in};
 
-use crate::rows::{Row, Start};
 use std::alloc::Global;
 use std::test::Fail;
 use wtf_base::Settings;
 use wtf_machine::Machine;
 use wtf_model::{Answer, Event};
 use wtf_print::parse_answer;
+use wtf_rows::row::{Row, Start};
 use wtf_script::parse_line;
 
 /// A machine counts installs, stamps and scans to this at most.

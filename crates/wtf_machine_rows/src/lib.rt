@@ -6,6 +6,4 @@ mod asked;
 #[cfg(test)]
 mod refused;
 #[cfg(test)]
-mod rows;
-#[cfg(test)]
 mod runs;

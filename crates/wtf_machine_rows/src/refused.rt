@@ -1,6 +1,6 @@
 //! Answers that may not be given. ` =/> ` stands before one, and the same line then has its right answer: the machine is as it was.
 
-use crate::rows::{DEFAULTS, Row, SMALL_REGIONS};
+use wtf_rows::row::{DEFAULTS, Row, SMALL_REGIONS};
 
 /// Commits, retries and replays.
 pub(crate) const COMMITS: [Row; 10] = [

@@ -2,12 +2,37 @@
 
 use crate::asked::{Asked, first_wrong};
 use crate::refused::{CALLS, COMMITS, JOBS_AND_SCANS};
-use crate::rows::{CLIENTS, DEFAULTS, FILES, JOBS, Row, SCANS, SLICES};
 use std::alloc::Global;
 use std::test::Fail;
+use wtf_rows::clients::CLIENTS;
+use wtf_rows::examples::EXAMPLES;
+use wtf_rows::files::FILES;
+use wtf_rows::jobs::{JOBS, MORE_JOBS};
+use wtf_rows::row::{DEFAULTS, Row, Run, Start};
+use wtf_rows::scans::{FAILED_SAVE, SCANS};
+use wtf_rows::slices::SLICES;
 
 /// No row, and no line of one.
 const NONE: (&str, usize) = ("", 0);
+
+/// A machine that begins with the number of installs of an image.
+const LATER: [Row; 1] = [Row {
+    name: "after seven installs",
+    start: Start {
+        words: "",
+        line: "wtf servers 4 replicas 2 region 65536 number 7\n",
+        servers: 4,
+        replicas: 2,
+        region: 65_536,
+        number: 7,
+    },
+    text: "",
+    lines: "c0 begin => begun 7
+c0 create /a => ok
+c0 try => committed 8
+sys save => saved 8
+",
+}];
 
 /// The first of these rows that is not as it says, and the number of its line; no name and 0 where there is none.
 fn first_failed(alloc: Global, rows: &[Row]) -> Result<(&'static str, usize), Fail> {
@@ -15,6 +40,17 @@ fn first_failed(alloc: Global, rows: &[Row]) -> Result<(&'static str, usize), Fa
         let line = first_wrong(alloc, row)?;
         if line != 0 {
             return Ok((row.name, line));
+        }
+    }
+    Ok(("", 0))
+}
+
+/// The same of rows that are run too.
+fn first_failed_run(alloc: Global, runs: &[Run]) -> Result<(&'static str, usize), Fail> {
+    for run in runs {
+        let line = first_wrong(alloc, &run.row)?;
+        if line != 0 {
+            return Ok((run.row.name, line));
         }
     }
     Ok(("", 0))
@@ -34,31 +70,40 @@ fn is_full_in_time(alloc: Global) -> Result<bool, Fail> {
 
 #[test]
 fn files_are_as_the_rows_say(rt: HostRuntime) -> Result<(), Fail> {
-    assert_eq!(rt; first_failed(rt.alloc(), &FILES)?, NONE);
+    assert_eq!(rt; first_failed_run(rt.alloc(), &FILES)?, NONE);
+    assert_eq!(rt; first_failed(rt.alloc(), &LATER)?, NONE);
     Ok(())
 }
 
 #[test]
 fn clients_are_as_the_rows_say(rt: HostRuntime) -> Result<(), Fail> {
-    assert_eq!(rt; first_failed(rt.alloc(), &CLIENTS)?, NONE);
+    assert_eq!(rt; first_failed_run(rt.alloc(), &CLIENTS)?, NONE);
     Ok(())
 }
 
 #[test]
 fn slices_are_as_the_rows_say(rt: HostRuntime) -> Result<(), Fail> {
-    assert_eq!(rt; first_failed(rt.alloc(), &SLICES)?, NONE);
+    assert_eq!(rt; first_failed_run(rt.alloc(), &SLICES)?, NONE);
+    Ok(())
+}
+
+#[test]
+fn examples_are_as_the_rows_say(rt: HostRuntime) -> Result<(), Fail> {
+    assert_eq!(rt; first_failed_run(rt.alloc(), &EXAMPLES)?, NONE);
     Ok(())
 }
 
 #[test]
 fn jobs_are_as_the_rows_say(rt: HostRuntime) -> Result<(), Fail> {
-    assert_eq!(rt; first_failed(rt.alloc(), &JOBS)?, NONE);
+    assert_eq!(rt; first_failed_run(rt.alloc(), &JOBS)?, NONE);
+    assert_eq!(rt; first_failed_run(rt.alloc(), &MORE_JOBS)?, NONE);
     Ok(())
 }
 
 #[test]
 fn scans_are_as_the_rows_say(rt: HostRuntime) -> Result<(), Fail> {
-    assert_eq!(rt; first_failed(rt.alloc(), &SCANS)?, NONE);
+    assert_eq!(rt; first_failed_run(rt.alloc(), &SCANS)?, NONE);
+    assert_eq!(rt; first_failed(rt.alloc(), &[FAILED_SAVE])?, NONE);
     Ok(())
 }
 

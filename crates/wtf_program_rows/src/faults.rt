@@ -2,10 +2,9 @@
 
 use crate::told::answers;
 use std::alloc::Global;
-use std::process::Abort;
 use std::test::Fail;
 use wtf_dev::{MemStore, Shelf, SliceStore};
-use wtf_trial::devices::{Ended, Failing, NONE, run, run_on, stores};
+use wtf_trial::devices::{Failing, NONE, run, run_on, stores};
 use wtf_trial::texts::*;
 
 /// The read that fails, the status, and the output. The whole script comes with the first read, and its end with the
@@ -15,22 +14,31 @@ const READS: [(u64, u8, &[u8]); 3] = [(0, 3, FIRST_LINE), (1, 3, OUTPUT), (2, 0,
 /// The call of the keeper that fails, the status, and the output: the load, and the replace at the end.
 const KEEPS: [(u64, u8, &[u8]); 3] = [(0, 8, b""), (1, 5, FIRST_LINE), (2, 0, FIRST_LINE)];
 
-/// A run of the first script whose sink fails at one call.
-fn unwritten(alloc: Global, call: u64) -> Result<Ended, Fail> {
+/// Whether a run of the first script whose source fails at a call comes to what it should.
+fn is_unread(alloc: Global, row: &(u64, u8, &[u8])) -> Result<bool, Fail> {
+    let source = Some(row.0);
+    let ended = run(alloc, "", Failing { source, ..NONE })?;
+    Ok(ended.has(row.1, row.2))
+}
+
+/// Whether a run of the first script whose sink fails at a call has written the lines before. There are nine calls: each line
+/// is one write, and the call behind them brings out what is held back. Where one fails nothing is saved.
+fn is_unwritten(alloc: Global, call: u64) -> Result<bool, Fail> {
     let sink = Some(call);
-    run(alloc, "", Failing { sink, ..NONE })
+    let ended = run(alloc, "", Failing { sink, ..NONE })?;
+    let status = if call < 9 { 4 } else { 0 };
+    let written = ended.lines() == call.min(8) && OUTPUT.starts_with(ended.output.as_slice());
+    Ok(ended.status == status && written && ended.kept.is_empty() == (call < 9))
 }
 
-fn feeds(bytes: &[u8]) -> u64 {
-    bytes.iter().filter(|b| **b == b'\n').count() as u64
-}
-
-/// A run with an empty script on the image of an empty store, whose keeper fails at one call.
-fn unkept(alloc: Global, call: u64) -> Result<Ended, Fail> {
+/// Whether a run with an empty script on the image of an empty store, whose keeper fails at a call, comes to what it should, and
+/// the keeper then holds what it held.
+fn is_unkept(alloc: Global, row: &(u64, u8, &[u8])) -> Result<bool, Fail> {
     let mut shelf = stores(alloc, 16, 0, None)?;
-    let keeper = Some(call);
+    let keeper = Some(row.0);
     let failing = Failing { keeper, ..NONE };
-    run_on(alloc, "", &[], failing, &mut shelf, EMPTY_IMAGE)
+    let ended = run_on(alloc, "", &[], failing, &mut shelf, EMPTY_IMAGE)?;
+    Ok(ended.has(row.1, row.2) && ended.kept.as_slice() == EMPTY_IMAGE)
 }
 
 /// Makes one more call on the store of a server, and says whether it answered.
@@ -49,32 +57,41 @@ fn was_made(shelf: &mut Shelf<MemStore>, server: u8, call: u64) -> bool {
     true
 }
 
-/// The status and the output of a script over so many servers, where the store of one fails at one call; `None` where
-/// that call was not made.
-fn run_with_fault(
+/// The status of a script over so many servers, which has to have this output. A failure is another output.
+fn status_of(
     alloc: Global,
     servers: u8,
     script: &[u8],
-    server: u8,
-    call: u64,
-) -> Result<Option<(u8, Vec<u8>)>, Fail> {
-    let mut shelf = stores(alloc, 16, server, Some(call))?;
-    let ended = answers(alloc, servers, script, &mut shelf)?;
-    if was_made(&mut shelf, server, call) {
-        return Ok(Some((ended.status, ended.output)));
+    output: &[u8],
+    shelf: &mut Shelf<MemStore>,
+) -> Result<u8, Fail> {
+    let ended = answers(alloc, servers, script, shelf)?;
+    if ended.output.as_slice() == output {
+        return Ok(ended.status);
     }
-    Ok(None)
+    Err(Fail::from("another output"))
+}
+
+/// The status of the first script on four servers, where the store of one fails at one call; `None` where that call was not
+/// made.
+fn status_of_four(alloc: Global, server: u8, call: u64) -> Result<Option<u8>, Fail> {
+    let mut shelf = stores(alloc, 16, server, Some(call))?;
+    let status = status_of(alloc, 4, SCRIPT, OUTPUT, &mut shelf)?;
+    Ok(if was_made(&mut shelf, server, call) {
+        Some(status)
+    } else {
+        None
+    })
 }
 
 /// Runs the first script on four servers, with one store failing in each of its calls: how many there are, and the sum
 /// of the statuses.
-fn fail_in_turn(rt: &impl Abort, alloc: Global, server: u8) -> Result<(u64, u64), Fail> {
+fn fail_in_turn(alloc: Global, server: u8) -> Result<(u64, u64), Fail> {
     let mut statuses = 0u64;
     for call in 0..9u64 {
-        let Some((status, output)) = run_with_fault(alloc, 4, SCRIPT, server, call)? else {
+        let Some(status) = status_of_four(alloc, server, call)? else {
             return Ok((call, statuses));
         };
-        assert_eq!(rt; output.as_slice(), OUTPUT, "call {call} of server {server}");
         statuses = statuses.saturating_add(status as u64);
     }
     Ok((9, statuses))
@@ -89,49 +106,44 @@ fn three_output(server: u8, call: u64) -> &'static [u8] {
     THREE_OUTPUT
 }
 
-#[test]
-fn each_read_of_the_script_fails_once(rt: HostRuntime) -> Result<(), Fail> {
-    for (call, status, want) in READS {
-        let source = Some(call);
-        let ended = run(rt.alloc(), "", Failing { source, ..NONE })?;
-        assert_eq!(rt;
-            (ended.status, ended.output.as_slice()),
-            (status, want),
-            "read {call}"
-        );
+/// Runs the script of three servers, where the store of one fails at one call, and answers whether that call was made.
+fn fails_in_three(alloc: Global, server: u8, call: u64) -> Result<bool, Fail> {
+    let mut shelf = stores(alloc, 16, server, Some(call))?;
+    let output = three_output(server, call);
+    status_of(alloc, 3, THREE_SCRIPT, output, &mut shelf)?;
+    Ok(was_made(&mut shelf, server, call))
+}
+
+/// Runs that script with the store of a server failing in each of its calls.
+fn fail_all_in_three(alloc: Global, server: u8) -> Result<(), Fail> {
+    for call in 0..9u64 {
+        if !fails_in_three(alloc, server, call)? {
+            return Ok(());
+        }
     }
     Ok(())
 }
 
-/// Each line is one write, so a run whose write fails has written the lines before. The call behind them brings out what is
-/// held back, and where it fails nothing is saved.
+#[test]
+fn each_read_of_the_script_fails_once(rt: HostRuntime) -> Result<(), Fail> {
+    for row in READS.iter() {
+        assert!(rt; is_unread(rt.alloc(), row)?, "read {}", row.0);
+    }
+    Ok(())
+}
+
 #[test]
 fn each_write_of_an_answer_fails_once(rt: HostRuntime) -> Result<(), Fail> {
     for call in 0..10u64 {
-        let ended = unwritten(rt.alloc(), call)?;
-        let status = if call < 9 { 4 } else { 0 };
-        assert_eq!(rt;
-            (ended.status, feeds(ended.output.as_slice())),
-            (status, call.min(8)),
-            "write {call}"
-        );
-        assert!(rt; OUTPUT.starts_with(ended.output.as_slice()), "write {call}");
-        assert_eq!(rt; ended.kept.is_empty(), call < 9, "write {call}");
+        assert!(rt; is_unwritten(rt.alloc(), call)?, "write {call}");
     }
     Ok(())
 }
 
-/// The keeper then holds what it held.
 #[test]
 fn each_call_of_the_keeper_fails_once(rt: HostRuntime) -> Result<(), Fail> {
-    for (call, status, want) in KEEPS {
-        let ended = unkept(rt.alloc(), call)?;
-        assert_eq!(rt;
-            (ended.status, ended.output.as_slice()),
-            (status, want),
-            "call {call}"
-        );
-        assert_eq!(rt; ended.kept.as_slice(), EMPTY_IMAGE, "call {call}");
+    for row in KEEPS.iter() {
+        assert!(rt; is_unkept(rt.alloc(), row)?, "call {}", row.0);
     }
     Ok(())
 }
@@ -142,7 +154,7 @@ fn each_call_of_the_keeper_fails_once(rt: HostRuntime) -> Result<(), Fail> {
 fn each_call_of_a_store_of_four_fails_once(rt: HostRuntime) -> Result<(), Fail> {
     let mut sum = (0u64, 0u64);
     for server in 0..4u8 {
-        let (made, statuses) = fail_in_turn(&rt, rt.alloc(), server)?;
+        let (made, statuses) = fail_in_turn(rt.alloc(), server)?;
         sum = (sum.0.saturating_add(made), sum.1.saturating_add(statuses));
     }
     assert_eq!(rt; sum, (7, 20));
@@ -153,14 +165,7 @@ fn each_call_of_a_store_of_four_fails_once(rt: HostRuntime) -> Result<(), Fail> 
 #[test]
 fn each_call_of_a_store_of_three_fails_once(rt: HostRuntime) -> Result<(), Fail> {
     for server in 0..3u8 {
-        for call in 0..9u64 {
-            let Some((_, output)) = run_with_fault(rt.alloc(), 3, THREE_SCRIPT, server, call)?
-            else {
-                break;
-            };
-            let want = three_output(server, call);
-            assert_eq!(rt; output.as_slice(), want, "call {call} of server {server}");
-        }
+        fail_all_in_three(rt.alloc(), server)?;
     }
     Ok(())
 }

@@ -57,29 +57,42 @@ fn sum_of(output: &str) -> u64 {
     sum
 }
 
-fn feeds(bytes: &[u8]) -> u64 {
-    bytes.iter().filter(|b| **b == b'\n').count() as u64
+/// Whether a run wrote the first lines and a summary of all that it was asked.
+fn is_summed_up(ended: &Ended) -> bool {
+    let output = ended.output.as_slice();
+    let sum = str::from_utf8(output).map(sum_of).unwrap_or(0);
+    ended.status == 0 && ended.lines() == 9 && output.starts_with(START) && sum == 20_000
 }
 
-/// The lines of an output, whether it begins as it should, and what its counts add up to.
-fn shape(output: &[u8]) -> (u64, bool, u64) {
-    let sum = str::from_utf8(output).map(sum_of).unwrap_or(0);
-    (feeds(output), output.starts_with(START), sum)
+/// Whether the run comes to the same once more.
+fn is_the_same_again(alloc: Global, first: &Ended) -> Result<bool, Fail> {
+    let second = whole_run(alloc)?;
+    Ok(first.output == second.output && first.kept == second.kept)
+}
+
+/// Whether the run has written the same and left no image where the image cannot be replaced.
+fn is_written_unsaved(alloc: Global, whole: &Ended) -> Result<bool, Fail> {
+    let unsaved = unsaved_run(alloc)?;
+    Ok(unsaved.has(5, whole.output.as_slice()) && unsaved.kept.is_empty())
+}
+
+/// Whether the run has written so many lines and left no image where the sink fails at a call.
+fn is_unwritten(alloc: Global, call: u64, lines: u64) -> Result<bool, Fail> {
+    let ended = unwritten_run(alloc, call)?;
+    Ok(ended.status == 4 && ended.lines() == lines && ended.kept.is_empty())
 }
 
 #[test]
 fn a_generated_script_is_summed_up(rt: HostRuntime) -> Result<(), Fail> {
     let ended = whole_run(rt.alloc())?;
-    assert_eq!(rt; ended.status, 0);
-    assert_eq!(rt; shape(ended.output.as_slice()), (9, true, 20_000));
+    assert!(rt; is_summed_up(&ended));
     Ok(())
 }
 
 #[test]
 fn the_same_words_give_the_same_summary(rt: HostRuntime) -> Result<(), Fail> {
     let first = whole_run(rt.alloc())?;
-    let second = whole_run(rt.alloc())?;
-    assert!(rt; first.output == second.output && first.kept == second.kept);
+    assert!(rt; is_the_same_again(rt.alloc(), &first)?);
     Ok(())
 }
 
@@ -87,9 +100,7 @@ fn the_same_words_give_the_same_summary(rt: HostRuntime) -> Result<(), Fail> {
 #[test]
 fn a_summary_comes_before_the_closing_save(rt: HostRuntime) -> Result<(), Fail> {
     let whole = whole_run(rt.alloc())?;
-    let unsaved = unsaved_run(rt.alloc())?;
-    assert_eq!(rt; (unsaved.status, unsaved.kept.is_empty()), (5, true));
-    assert!(rt; unsaved.output == whole.output);
+    assert!(rt; is_written_unsaved(rt.alloc(), &whole)?);
     Ok(())
 }
 
@@ -98,10 +109,7 @@ fn a_summary_comes_before_the_closing_save(rt: HostRuntime) -> Result<(), Fail> 
 #[test]
 fn a_summary_is_not_written_where_the_sink_fails(rt: HostRuntime) -> Result<(), Fail> {
     for (call, lines) in [(0, 0), (47, 1), (48, 9)] {
-        let ended = unwritten_run(rt.alloc(), call)?;
-        let output = ended.output.as_slice();
-        assert_eq!(rt; (ended.status, feeds(output)), (4, lines), "call {call}");
-        assert!(rt; ended.kept.is_empty(), "call {call}");
+        assert!(rt; is_unwritten(rt.alloc(), call, lines)?, "call {call}");
     }
     Ok(())
 }

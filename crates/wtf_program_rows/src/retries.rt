@@ -2,7 +2,7 @@
 
 use std::alloc::Global;
 use std::test::Fail;
-use wtf_trial::devices::{NONE, run_on, stores};
+use wtf_trial::devices::{NONE, run_script};
 
 const FILE: &str =
     "c0 begin\nc0 mkdir /d\nc0 create /d/a\nc0 open f0 /d/a\nc0 write f0 t:abc\nc0 try\n";
@@ -15,13 +15,19 @@ const APPENDS: &str =
 const LOOKS: &str =
     "c0 begin\nc1 begin\nc0 open f0 /d/a\nc0 read f0 3\nc1 list /d\nc1 stat /d/a\nc1 open f0 /d/a\nc1 tell f0\nc1 try\nc0 try\n";
 
-/// A file, and then so many rounds of this.
-fn rounds(alloc: Global, round: &str, count: u64) -> Result<Vec<u8>, Fail> {
-    let mut script = FILE.as_bytes().to_vec(alloc)?;
+/// Adds so many rounds of this.
+fn add_rounds(script: &mut Vec<u8>, round: &str, count: u64) -> Result<(), Fail> {
     for _ in 0..count {
         script.extend_from_slice(round.as_bytes())?;
     }
-    Ok(script)
+    Ok(())
+}
+
+/// How many attempts ask for a replay, and how many commit, where a file is made and then there are so many rounds of this.
+fn attempts(alloc: Global, round: &str, count: u64) -> Result<(u64, u64), Fail> {
+    let mut script = FILE.as_bytes().to_vec(alloc)?;
+    add_rounds(&mut script, round, count)?;
+    attempts_of(alloc, script.as_slice())
 }
 
 fn lines_with(output: &str, front: &str) -> u64 {
@@ -32,9 +38,8 @@ fn lines_with(output: &str, front: &str) -> u64 {
 }
 
 /// How many attempts of a script ask for a replay, and how many commit.
-fn attempts(alloc: Global, script: &[u8]) -> Result<(u64, u64), Fail> {
-    let mut shelf = stores(alloc, 16, 0, None)?;
-    let ended = run_on(alloc, "", script, NONE, &mut shelf, &[])?;
+fn attempts_of(alloc: Global, script: &[u8]) -> Result<(u64, u64), Fail> {
+    let ended = run_script(alloc, "", script, NONE)?;
     let output = str::from_utf8(ended.output.as_slice()).unwrap_or("");
     Ok((
         lines_with(output, "retry "),
@@ -44,14 +49,12 @@ fn attempts(alloc: Global, script: &[u8]) -> Result<(u64, u64), Fail> {
 
 #[test]
 fn appends_that_fit_need_no_retry(rt: HostRuntime) -> Result<(), Fail> {
-    let script = rounds(rt.alloc(), APPENDS, 100)?;
-    assert_eq!(rt; attempts(rt.alloc(), script.as_slice())?, (0, 201));
+    assert_eq!(rt; attempts(rt.alloc(), APPENDS, 100)?, (0, 201));
     Ok(())
 }
 
 #[test]
 fn looks_of_others_cost_no_retry(rt: HostRuntime) -> Result<(), Fail> {
-    let script = rounds(rt.alloc(), LOOKS, 50)?;
-    assert_eq!(rt; attempts(rt.alloc(), script.as_slice())?, (0, 101));
+    assert_eq!(rt; attempts(rt.alloc(), LOOKS, 50)?, (0, 101));
     Ok(())
 }

@@ -1,11 +1,18 @@
 //! Whole runs over devices that never fail.
 
-use crate::rows::{FURTHER_ROWS, LAST_ROWS, MORE_ROWS, ROWS};
 use crate::told::answers_on;
 use std::alloc::Global;
 use std::test::Fail;
+use wtf_dev::{MemStore, Shelf};
+use wtf_rows::clients::CLIENTS;
+use wtf_rows::examples::EXAMPLES;
+use wtf_rows::files::{FILES, LONG_FILE};
+use wtf_rows::jobs::{JOBS, MORE_JOBS};
+use wtf_rows::row::DEFAULTS;
+use wtf_rows::scans::SCANS;
+use wtf_rows::slices::SLICES;
 use wtf_trial::devices::{NONE, run, run_on, stores};
-use wtf_trial::rows::{check_row, is_answered};
+use wtf_trial::rows::{check_rows, is_answered};
 use wtf_trial::texts::*;
 use wtf_trial::wanted::Wanted;
 
@@ -42,13 +49,44 @@ const WORDS: [(&str, u8, &str); 21] = [
     ("3", 2, ""),
 ];
 
-/// Servers, stores, a script, the status, and the output. With one of three servers down both others are needed for a
-/// write.
-const SETTINGS: [(u8, u8, &[u8], u8, &[u8]); 4] = [
-    (4, 3, SCRIPT, 2, b""),
-    (4, 4, SCRIPT, 0, OUTPUT),
-    (4, 16, SCRIPT, 0, OUTPUT),
-    (3, 16, THREE_SCRIPT, 0, THREE_OUTPUT),
+/// A script over so many stores, and what it comes to. With one of three servers down both others are needed for a write.
+struct Shelved {
+    servers: u8,
+    stores: u8,
+    script: &'static [u8],
+    status: u8,
+    output: &'static [u8],
+}
+
+const SETTINGS: [Shelved; 4] = [
+    Shelved {
+        servers: 4,
+        stores: 3,
+        script: SCRIPT,
+        status: 2,
+        output: b"",
+    },
+    Shelved {
+        servers: 4,
+        stores: 4,
+        script: SCRIPT,
+        status: 0,
+        output: OUTPUT,
+    },
+    Shelved {
+        servers: 4,
+        stores: 16,
+        script: SCRIPT,
+        status: 0,
+        output: OUTPUT,
+    },
+    Shelved {
+        servers: 3,
+        stores: 16,
+        script: THREE_SCRIPT,
+        status: 0,
+        output: THREE_OUTPUT,
+    },
 ];
 
 /// Words, a script, the output, and what the keeper then holds, where it is told here. Each run goes on where the one
@@ -59,50 +97,111 @@ const LATER: [(&str, &[u8], &[u8], &[u8]); 3] = [
     ("--region 64", LATER_SCRIPT, AFTER_FIRST, b""),
 ];
 
-/// More calls than a log has room for, refused ones counted.
-fn many_calls(alloc: Global) -> Result<Wanted, Fail> {
-    let mut calls = Wanted::new(alloc, "wtf servers 4 replicas 2 region 65536 number 0\n")?;
+/// Runs the first script with words. Where it comes to something else than they should, the failure has them; refused words
+/// write nothing.
+fn check_words(alloc: Global, row: &(&'static str, u8, &str)) -> Result<(), Fail> {
+    let refused = row.1 == 2;
+    let ended = run(alloc, row.0, NONE)?;
+    let nothing = ended.output.is_empty() == refused && ended.kept.is_empty() == refused;
+    if ended.status == row.1 && nothing && ended.output.starts_with(row.2.as_bytes()) {
+        return Ok(());
+    }
+    Err(Fail::from(row.0))
+}
+
+/// Whether a script over so many stores comes to what it should; one that is refused leaves no image.
+fn is_as_shelved(alloc: Global, row: &Shelved) -> Result<bool, Fail> {
+    let ended = answers_on(alloc, row.servers, row.stores, row.script)?;
+    Ok(ended.has(row.status, row.output) && ended.kept.is_empty() == (row.status == 2))
+}
+
+/// Adds more calls than a log has room for, refused ones counted.
+fn add_calls(calls: &mut Wanted) -> Result<(), Fail> {
     calls.add_line("c0 begin", "begun 0")?;
     for _ in 0..4_096u16 {
         calls.add_line("c0 tell f0", "refused nohandle")?;
     }
     calls.add_line("c0 tell f0", "refused full")?;
-    calls.add_line("c0 try", "committed 1")?;
-    Ok(calls)
+    calls.add_line("c0 try", "committed 1")
 }
 
-/// The longest file that is shown, which was one byte longer before.
-fn long_file(alloc: Global) -> Result<Wanted, Fail> {
-    let mut long = Wanted::new(alloc, "wtf servers 4 replicas 2 region 65536 number 0\n")?;
+fn are_calls_counted(alloc: Global) -> Result<bool, Fail> {
+    let mut calls = Wanted::new(alloc, DEFAULTS.line)?;
+    add_calls(&mut calls)?;
+    is_answered(alloc, "", &calls)
+}
+
+/// Adds the longest file that is shown, which was one byte longer before.
+fn add_long_file(long: &mut Wanted) -> Result<(), Fail> {
     long.add(LONG_FILE)?;
-    let zeros = vec![in alloc; b'0'; 2_097_152]?;
     long.script.extend_from_slice(b"sys dump /a\n")?;
     long.output.extend_from_slice(b"data x:")?;
-    long.output.extend_from_slice(zeros.as_slice())?;
+    for _ in 0..2_097_152u32 {
+        long.output.push(b'0')?;
+    }
     long.output.push(b'\n')?;
-    Ok(long)
+    Ok(())
 }
 
-/// Lines with each kind of fault.
-fn bad_lines(alloc: Global) -> Result<Vec<u8>, Fail> {
-    let mut script = BAD_FRONT.to_vec(alloc)?;
-    script.extend_from_slice(vec![in alloc; b'a'; 65_537]?.as_slice())?;
+fn is_long_file_shown(alloc: Global) -> Result<bool, Fail> {
+    let mut long = Wanted::new(alloc, DEFAULTS.line)?;
+    add_long_file(&mut long)?;
+    is_answered(alloc, "", &long)
+}
+
+/// Adds lines with each kind of fault.
+fn add_bad_lines(script: &mut Vec<u8>) -> Result<(), Fail> {
+    script.extend_from_slice(BAD_FRONT)?;
+    for _ in 0..65_537u32 {
+        script.push(b'a')?;
+    }
     script.extend_from_slice(BAD_BACK)?;
-    Ok(script)
+    Ok(())
 }
 
-/// Words and the status of a run with them: refused words write nothing.
+fn are_bad_lines_told(alloc: Global) -> Result<bool, Fail> {
+    let mut script = Vec::new(alloc);
+    add_bad_lines(&mut script)?;
+    let ended = answers_on(alloc, 4, 4, script.as_slice())?;
+    Ok(ended.has(1, BAD_OUTPUT))
+}
+
+/// The image that a later run leaves, which begins with this one.
+fn image_after(
+    alloc: Global,
+    row: &(&'static str, &[u8], &[u8], &[u8]),
+    shelf: &mut Shelf<MemStore>,
+    kept: &[u8],
+) -> Result<Vec<u8>, Fail> {
+    let ended = run_on(alloc, row.0, row.1, NONE, shelf, kept)?;
+    let kept = ended.kept_behind(row.2)?;
+    if row.3.is_empty() || kept.as_slice() == row.3 {
+        return Ok(kept);
+    }
+    Err(Fail::from("another image"))
+}
+
+/// The image that all of them leave.
+fn later_image(alloc: Global) -> Result<Vec<u8>, Fail> {
+    let mut shelf = stores(alloc, 16, 0, None)?;
+    let mut kept = Vec::new(alloc);
+    for row in LATER.iter() {
+        kept = image_after(alloc, row, &mut shelf, kept.as_slice())?;
+    }
+    Ok(kept)
+}
+
+/// Whether an image is refused where there are too few stores for its settings: then no pointer is looked at.
+fn is_refused_on_few(alloc: Global, image: &[u8]) -> Result<bool, Fail> {
+    let mut few = stores(alloc, 3, 0, None)?;
+    let refused = run_on(alloc, "--servers 3", &[], NONE, &mut few, image)?;
+    Ok(refused.has(2, b""))
+}
+
 #[test]
 fn words_have_their_status(rt: HostRuntime) -> Result<(), Fail> {
-    for (line, status, first) in WORDS {
-        let ended = run(rt.alloc(), line, NONE)?;
-        let nothing = (ended.output.is_empty(), ended.kept.is_empty());
-        assert_eq!(rt;
-            (ended.status, nothing),
-            (status, (status == 2, status == 2)),
-            "{line}"
-        );
-        assert!(rt; ended.output.starts_with(first.as_bytes()), "{line}");
+    for row in WORDS.iter() {
+        check_words(rt.alloc(), row)?;
     }
     Ok(())
 }
@@ -110,97 +209,65 @@ fn words_have_their_status(rt: HostRuntime) -> Result<(), Fail> {
 /// With three stores for four servers the run is refused before anything is written.
 #[test]
 fn settings_are_answered(rt: HostRuntime) -> Result<(), Fail> {
-    for (servers, count, script, status, want) in SETTINGS {
-        let ended = answers_on(rt.alloc(), servers, count, script)?;
-        let got = (ended.status, ended.kept.is_empty());
-        assert_eq!(rt;
-            got,
-            (status, status == 2),
-            "{servers} servers on {count} stores"
-        );
-        assert_eq!(rt;
-            ended.output.as_slice(),
-            want,
-            "{servers} servers on {count} stores"
-        );
+    for row in SETTINGS.iter() {
+        assert!(rt; is_as_shelved(rt.alloc(), row)?);
     }
     Ok(())
 }
 
-/// Each row, and how many bytes the stores hold after it.
 #[test]
 fn rows_are_answered(rt: HostRuntime) -> Result<(), Fail> {
-    for row in ROWS.iter() {
-        check_row(rt.alloc(), row)?;
-    }
-    Ok(())
+    check_rows(rt.alloc(), &FILES)
 }
 
 #[test]
 fn more_rows_are_answered(rt: HostRuntime) -> Result<(), Fail> {
-    for row in MORE_ROWS.iter() {
-        check_row(rt.alloc(), row)?;
-    }
-    Ok(())
+    check_rows(rt.alloc(), &CLIENTS)
 }
 
 #[test]
 fn further_rows_are_answered(rt: HostRuntime) -> Result<(), Fail> {
-    for row in FURTHER_ROWS.iter() {
-        check_row(rt.alloc(), row)?;
-    }
-    Ok(())
+    check_rows(rt.alloc(), &SLICES)
 }
 
 #[test]
 fn last_rows_are_answered(rt: HostRuntime) -> Result<(), Fail> {
-    for row in LAST_ROWS.iter() {
-        check_row(rt.alloc(), row)?;
-    }
-    Ok(())
+    check_rows(rt.alloc(), &EXAMPLES)
+}
+
+#[test]
+fn rows_of_jobs_are_answered(rt: HostRuntime) -> Result<(), Fail> {
+    check_rows(rt.alloc(), &JOBS)
+}
+
+#[test]
+fn more_rows_of_jobs_are_answered(rt: HostRuntime) -> Result<(), Fail> {
+    check_rows(rt.alloc(), &MORE_JOBS)
+}
+
+#[test]
+fn rows_of_scans_are_answered(rt: HostRuntime) -> Result<(), Fail> {
+    check_rows(rt.alloc(), &SCANS)
 }
 
 /// A log has room for 4,096 calls, refused ones counted, and a file of 1,048,576 bytes is shown, but no longer one.
 #[test]
 fn limits_are_kept(rt: HostRuntime) -> Result<(), Fail> {
-    let alloc = rt.alloc();
-    let calls = many_calls(alloc)?;
-    assert!(rt; is_answered(alloc, "", &calls)?);
-    let long = long_file(alloc)?;
-    assert!(rt; is_answered(alloc, "", &long)?);
+    assert!(rt; are_calls_counted(rt.alloc())?);
+    assert!(rt; is_long_file_shown(rt.alloc())?);
     Ok(())
 }
 
 #[test]
 fn ill_formed_lines_are_told(rt: HostRuntime) -> Result<(), Fail> {
-    let script = bad_lines(rt.alloc())?;
-    let ended = answers_on(rt.alloc(), 4, 4, script.as_slice())?;
-    assert_eq!(rt; ended.status, 1);
-    assert_eq!(rt; ended.output.as_slice(), BAD_OUTPUT);
+    assert!(rt; are_bad_lines_told(rt.alloc())?);
     Ok(())
 }
 
-/// At last there are too few stores for the settings of the image, and then no pointer is looked at.
+/// At last there are too few stores for the settings of the image.
 #[test]
 fn a_run_goes_on_where_one_ended(rt: HostRuntime) -> Result<(), Fail> {
-    let alloc = rt.alloc();
-    let mut shelf = stores(alloc, 16, 0, None)?;
-    let mut kept = Vec::new(alloc);
-    for (words, script, want, image) in LATER {
-        let ended = run_on(alloc, words, script, NONE, &mut shelf, kept.as_slice())?;
-        assert_eq!(rt;
-            (ended.status, ended.output.as_slice()),
-            (0, want),
-            "after {words}"
-        );
-        assert!(rt;
-            image.is_empty() || ended.kept.as_slice() == image,
-            "after {words}"
-        );
-        kept = ended.kept;
-    }
-    let mut few = stores(alloc, 3, 0, None)?;
-    let refused = run_on(alloc, "--servers 3", &[], NONE, &mut few, kept.as_slice())?;
-    assert_eq!(rt; (refused.status, refused.output.is_empty()), (2, true));
+    let image = later_image(rt.alloc())?;
+    assert!(rt; is_refused_on_few(rt.alloc(), image.as_slice())?);
     Ok(())
 }

@@ -65,6 +65,26 @@ pub struct Ended {
     pub kept: Vec<u8>,
 }
 
+impl Ended {
+    /// Whether it has this status and this output.
+    pub fn has(&self, status: u8, output: &[u8]) -> bool {
+        self.status == status && self.output.as_slice() == output
+    }
+
+    /// How many lines the output has.
+    pub fn lines(&self) -> u64 {
+        self.output.iter().filter(|b| **b == b'\n').count() as u64
+    }
+
+    /// What the keeper holds, where the run ended well with this output.
+    pub fn kept_behind(self, output: &[u8]) -> Result<Vec<u8>, Fail> {
+        if self.has(0, output) {
+            return Ok(self.kept);
+        }
+        Err(Fail::from("another status or output"))
+    }
+}
+
 /// Which call of each device fails.
 #[derive(Clone, Copy)]
 pub struct Failing {
@@ -100,6 +120,42 @@ fn status_of(
     wtf(alloc, words, script, out, shelf, keeper)
 }
 
+/// The script as a source.
+fn source_of(alloc: Global, script: &[u8], call: Option<u64>) -> Result<MemSource, Fail> {
+    let calls = calls(alloc, call)?;
+    Ok(MemSource::new(alloc, script.to_vec(alloc)?, calls))
+}
+
+/// The keeper that holds these bytes.
+fn keeper_of(alloc: Global, kept: &[u8], call: Option<u64>) -> Result<MemKeeper, Fail> {
+    let calls = calls(alloc, call)?;
+    Ok(MemKeeper::new(alloc, kept.to_vec(alloc)?, calls))
+}
+
+/// What a run of this status came to.
+fn outcome_of(alloc: Global, status: u8, out: &MemSink, keeper: &MemKeeper) -> Result<Ended, Fail> {
+    let output = out.taken().to_vec(alloc)?;
+    Ok(Ended {
+        status,
+        output,
+        kept: keeper.held().to_vec(alloc)?,
+    })
+}
+
+/// A run from this source over these stores and this keeper, whose sink fails at this call.
+fn run_from(
+    alloc: Global,
+    words: &[String],
+    script: &mut MemSource,
+    sink: Option<u64>,
+    shelf: &mut Shelf<MemStore>,
+    keeper: &mut MemKeeper,
+) -> Result<Ended, Fail> {
+    let mut out = MemSink::new(alloc, calls(alloc, sink)?);
+    let status = status_of(alloc, words, script, &mut out, shelf, keeper);
+    outcome_of(alloc, status, &out, keeper)
+}
+
 /// A run over these stores and a keeper that holds these bytes.
 pub fn run_on(
     alloc: Global,
@@ -110,20 +166,24 @@ pub fn run_on(
     kept: &[u8],
 ) -> Result<Ended, Fail> {
     let words = words_of(alloc, words)?;
-    let mut script = MemSource::new(alloc, script.to_vec(alloc)?, calls(alloc, failing.source)?);
-    let mut out = MemSink::new(alloc, calls(alloc, failing.sink)?);
-    let mut keeper = MemKeeper::new(alloc, kept.to_vec(alloc)?, calls(alloc, failing.keeper)?);
-    let words = words.as_slice();
-    let status = status_of(alloc, words, &mut script, &mut out, shelf, &mut keeper);
-    Ok(Ended {
-        status,
-        output: out.taken().to_vec(alloc)?,
-        kept: keeper.held().to_vec(alloc)?,
-    })
+    let mut source = source_of(alloc, script, failing.source)?;
+    let mut keeper = keeper_of(alloc, kept, failing.keeper)?;
+    let (words, sink) = (words.as_slice(), failing.sink);
+    run_from(alloc, words, &mut source, sink, shelf, &mut keeper)
 }
 
-/// A run of the first script over sixteen empty stores and an empty keeper.
-pub fn run(alloc: Global, words: &str, failing: Failing) -> Result<Ended, Fail> {
+/// A run of a script over sixteen empty stores which never fail, and an empty keeper.
+pub fn run_script(
+    alloc: Global,
+    words: &str,
+    script: &[u8],
+    failing: Failing,
+) -> Result<Ended, Fail> {
     let mut shelf = stores(alloc, 16, 0, None)?;
-    run_on(alloc, words, SCRIPT, failing, &mut shelf, &[])
+    run_on(alloc, words, script, failing, &mut shelf, &[])
+}
+
+/// The same of the first script.
+pub fn run(alloc: Global, words: &str, failing: Failing) -> Result<Ended, Fail> {
+    run_script(alloc, words, SCRIPT, failing)
 }

@@ -1,67 +1,61 @@
-//! Scripts with their answers. A line and its answer stand on one line here, with ` => ` between.
+//! Runs of rows over devices in memory.
 
-use crate::devices::{NONE, run_on, stored, stores};
+use crate::devices::{NONE, run_on, run_script, stored, stores};
 use crate::wanted::Wanted;
 use std::alloc::Global;
 use std::test::Fail;
-
-/// A script that is run on empty stores which never fail.
-#[derive(Clone, Copy)]
-pub struct Row {
-    pub name: &'static str,
-    pub words: &'static str,
-    /// The line that the output begins with.
-    pub settings: &'static str,
-    /// Where it is not empty, a transaction before the lines makes `/a` with these bytes.
-    pub text: &'static str,
-    pub lines: &'static str,
-    /// How many bytes all stores hold in the end.
-    pub stored: u64,
-    pub status: u8,
-}
-
-pub const DEFAULTS: &str = "wtf servers 4 replicas 2 region 65536 number 0\n";
-
-pub const SMALL_REGIONS: &str = "wtf servers 4 replicas 2 region 64 number 0\n";
-
-pub const THREE_SERVERS: &str = "wtf servers 3 replicas 2 region 65536 number 0\n";
-
-pub const TWO_SERVERS: &str = "wtf servers 2 replicas 2 region 65536 number 0\n";
+use wtf_dev::{MemStore, Shelf};
+use wtf_rows::row::{Row, Run};
 
 /// Adds a transaction that makes `/a` with this text.
 fn add_file(wanted: &mut Wanted, alloc: Global, text: &str) -> Result<(), Fail> {
-    let write = format!(in alloc; "c0 write f0 t:{text} => ok\nc0 try => committed 1\n")?;
     wanted.add("c0 begin => begun 0\nc0 create /a => ok\nc0 open f0 /a => ok\n")?;
+    let write = format!(in alloc; "c0 write f0 t:{text} => ok\nc0 try => committed 1\n")?;
     wanted.add(write.as_str())
 }
 
-/// The script and the output of a row.
-fn wanted_of(alloc: Global, row: &Row) -> Result<Wanted, Fail> {
-    let mut wanted = Wanted::new(alloc, row.settings)?;
+/// Adds the lines of a row.
+fn add_row(wanted: &mut Wanted, alloc: Global, row: &Row) -> Result<(), Fail> {
     if !row.text.is_empty() {
-        add_file(&mut wanted, alloc, row.text)?;
+        add_file(wanted, alloc, row.text)?;
     }
-    wanted.add(row.lines)?;
+    wanted.add(row.lines)
+}
+
+/// The script and the output of a row.
+pub fn wanted_of(alloc: Global, row: &Row) -> Result<Wanted, Fail> {
+    let mut wanted = Wanted::new(alloc, row.start.line)?;
+    add_row(&mut wanted, alloc, row)?;
     Ok(wanted)
 }
 
-/// Runs a row. Where it comes to something else the failure has its name.
-pub fn check_row(alloc: Global, row: &Row) -> Result<(), Fail> {
-    let wanted = wanted_of(alloc, row)?;
-    let mut shelf = stores(alloc, 16, 0, None)?;
+/// Whether a row comes to what it says over these stores.
+fn is_as_said(alloc: Global, run: &Run, shelf: &mut Shelf<MemStore>) -> Result<bool, Fail> {
+    let wanted = wanted_of(alloc, &run.row)?;
     let script = wanted.script.as_slice();
-    let ended = run_on(alloc, row.words, script, NONE, &mut shelf, &[])?;
-    let is_status = ended.status == row.status && stored(&shelf) == row.stored;
-    if !is_status || ended.output.as_slice() != wanted.output.as_slice() {
-        return Err(Fail::from(row.name));
+    let ended = run_on(alloc, run.row.start.words, script, NONE, shelf, &[])?;
+    Ok(ended.has(run.status, wanted.output.as_slice()) && stored(shelf) == run.stored)
+}
+
+/// Runs a row on empty stores which never fail. Where it comes to something else the failure has its name.
+fn check_row(alloc: Global, run: &Run) -> Result<(), Fail> {
+    let mut shelf = stores(alloc, 16, 0, None)?;
+    if is_as_said(alloc, run, &mut shelf)? {
+        return Ok(());
+    }
+    Err(Fail::from(run.row.name))
+}
+
+/// Runs each of these rows.
+pub fn check_rows(alloc: Global, rows: &[Run]) -> Result<(), Fail> {
+    for run in rows {
+        check_row(alloc, run)?;
     }
     Ok(())
 }
 
 /// Whether a run over empty stores which never fail ends well with the output that is wanted.
 pub fn is_answered(alloc: Global, words: &str, wanted: &Wanted) -> Result<bool, Fail> {
-    let mut shelf = stores(alloc, 16, 0, None)?;
-    let script = wanted.script.as_slice();
-    let ended = run_on(alloc, words, script, NONE, &mut shelf, &[])?;
-    Ok(ended.status == 0 && ended.output.as_slice() == wanted.output.as_slice())
+    let ended = run_script(alloc, words, wanted.script.as_slice(), NONE)?;
+    Ok(ended.has(0, wanted.output.as_slice()))
 }

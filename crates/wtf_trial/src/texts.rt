@@ -6,20 +6,6 @@ pub const SCRIPT: &[u8] =
 pub const OUTPUT: &[u8] =
     b"wtf servers 4 replicas 2 region 65536 number 0\nbegun 0\nok\nok\nok\nok\ndata x:616263646566\ncommitted 1\n";
 
-/// A file that is one byte too long to be shown, and then is not.
-pub const LONG_FILE: &str = "c0 begin => begun 0
-c0 create /a => ok
-c0 open f0 /a => ok
-c0 seek f0 set 1048576 => ok
-c0 write f0 t:x => ok
-c0 try => committed 1
-sys dump /a => refused long
-c0 begin => begun 1
-c0 open f0 /a => ok
-c0 truncate f0 1048576 => ok
-c0 try => committed 2
-";
-
 /// The settings line alone.
 pub const FIRST_LINE: &[u8] = b"wtf servers 4 replicas 2 region 65536 number 0\n";
 

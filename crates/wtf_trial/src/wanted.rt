@@ -30,13 +30,19 @@ impl Wanted {
         Ok(())
     }
 
-    /// Adds lines as they stand in rows; one without an answer is a fault of the row.
+    /// Adds a line as it stands in a row. One that the machine refuses is not asked; one without an answer is a fault of the row.
+    fn add_as_said(&mut self, line: &str) -> Result<(), Fail> {
+        if line.is_empty() || line.contains(" =/> ") {
+            return Ok(());
+        }
+        let (asked, answer) = line.split_once(" => ").ok_or("a line without an answer")?;
+        self.add_line(asked, answer)
+    }
+
+    /// Adds lines as they stand in rows.
     pub fn add(&mut self, lines: &str) -> Result<(), Fail> {
         for line in lines.split('\n') {
-            if !line.is_empty() {
-                let (asked, answer) = line.split_once(" => ").ok_or("a line without an answer")?;
-                self.add_line(asked, answer)?;
-            }
+            self.add_as_said(line)?;
         }
         Ok(())
     }

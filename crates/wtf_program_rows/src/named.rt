@@ -15,14 +15,14 @@ pub(crate) struct Span {
 
 /// Bytes that are read one after another; behind the last one come zeros.
 #[derive(Drop)]
-struct Reader {
-    bytes: Vec<u8>,
+struct Reader<'a> {
+    bytes: &'a [u8],
     at: usize,
 }
 
-impl Reader {
+impl Reader<'_> {
     fn byte(&mut self) -> u8 {
-        let byte = self.bytes.as_slice().get(self.at).copied().unwrap_or(0);
+        let byte = self.bytes.get(self.at).copied().unwrap_or(0);
         self.at = self.at.saturating_add(1);
         byte
     }
@@ -68,7 +68,7 @@ impl Reader {
 }
 
 /// Adds the copies of the next slice, of so many bytes, and answers the last of them.
-fn add_slice(from: &mut Reader, len: u64, named: &mut Vec<Span>) -> Result<Span, Fail> {
+fn add_slice(from: &mut Reader<'_>, len: u64, named: &mut Vec<Span>) -> Result<Span, Fail> {
     let width = from.byte();
     let mut last = Span {
         server: 0,
@@ -84,7 +84,7 @@ fn add_slice(from: &mut Reader, len: u64, named: &mut Vec<Span>) -> Result<Span,
 }
 
 /// Adds what the next list of entries names.
-fn add_entries(from: &mut Reader, named: &mut Vec<Span>) -> Result<(), Fail> {
+fn add_entries(from: &mut Reader<'_>, named: &mut Vec<Span>) -> Result<(), Fail> {
     let entries = from.number(4);
     for _ in 0..entries {
         from.skip(4);
@@ -96,10 +96,25 @@ fn add_entries(from: &mut Reader, named: &mut Vec<Span>) -> Result<(), Fail> {
     Ok(())
 }
 
+/// Adds what the list names that lies in a slice: its entries stand behind a word of four bytes.
+fn add_list(
+    alloc: Global,
+    slice: Span,
+    shelf: &mut Shelf<MemStore>,
+    named: &mut Vec<Span>,
+) -> Result<(), Fail> {
+    let bytes = file_of(alloc, shelf, slice.server, slice.file)?;
+    let mut list = Reader {
+        bytes: bytes.as_slice(),
+        at: (slice.from as usize).saturating_add(4),
+    };
+    add_entries(&mut list, named)
+}
+
 /// Adds what the next region names: by its base, by the list that lies there, and by its entries.
 fn add_region(
     alloc: Global,
-    from: &mut Reader,
+    from: &mut Reader<'_>,
     shelf: &mut Shelf<MemStore>,
     named: &mut Vec<Span>,
 ) -> Result<(), Fail> {
@@ -108,10 +123,7 @@ fn add_region(
         from.skip(4);
         let len = from.number(4);
         let base = add_slice(from, len, named)?;
-        let bytes = file_of(alloc, shelf, base.server, base.file)?;
-        // the entries stand behind a word of four bytes
-        let at = (base.from as usize).saturating_add(4);
-        add_entries(&mut Reader { bytes, at }, named)?;
+        add_list(alloc, base, shelf, named)?;
     }
     add_entries(from, named)
 }
@@ -119,7 +131,7 @@ fn add_region(
 /// Adds what the next file names.
 fn add_file(
     alloc: Global,
-    from: &mut Reader,
+    from: &mut Reader<'_>,
     shelf: &mut Shelf<MemStore>,
     named: &mut Vec<Span>,
 ) -> Result<(), Fail> {
@@ -131,22 +143,33 @@ fn add_file(
     Ok(())
 }
 
-/// What an image names, through its lists too, sorted.
-pub(crate) fn names_of(
+/// Adds what an image names, through its lists too.
+fn add_image(
     alloc: Global,
-    image: Vec<u8>,
+    image: &[u8],
     shelf: &mut Shelf<MemStore>,
-) -> Result<Vec<Span>, Fail> {
+    named: &mut Vec<Span>,
+) -> Result<(), Fail> {
     let mut from = Reader {
         bytes: image,
         at: 0,
     };
-    let mut named = Vec::new(alloc);
     from.skip_paths();
     let files = from.number(4);
     for _ in 0..files {
-        add_file(alloc, &mut from, shelf, &mut named)?;
+        add_file(alloc, &mut from, shelf, named)?;
     }
+    Ok(())
+}
+
+/// The same alone, sorted.
+pub(crate) fn names_of(
+    alloc: Global,
+    image: &[u8],
+    shelf: &mut Shelf<MemStore>,
+) -> Result<Vec<Span>, Fail> {
+    let mut named = Vec::new(alloc);
+    add_image(alloc, image, shelf, &mut named)?;
     named.sort_by_key(|s| (s.server, s.file, s.from))?;
     Ok(named)
 }

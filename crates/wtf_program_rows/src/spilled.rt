@@ -1,7 +1,7 @@
 //! Runs over an image of which a file's list lies in a slice.
 
 use crate::damage::spoiled;
-use crate::image::{SPILLED_IMAGE, SPILLED_STORE, holding};
+use crate::images::{SPILLED_IMAGE, SPILLED_STORE, holding};
 use std::alloc::Global;
 use std::test::Fail;
 use wtf_trial::devices::{NONE, run_on};
@@ -52,19 +52,28 @@ const RUNS: [(usize, u8, &[u8], &[u8]); 6] = [
     ),
 ];
 
-/// Whether a run over the image, and a store with another byte at one place, ends well with these answers.
-fn is_answered(alloc: Global, row: (usize, u8, &[u8], &[u8])) -> Result<bool, Fail> {
+/// Whether a run over the image, and a store with these bytes, ends well with these answers.
+fn is_answered_over(
+    alloc: Global,
+    stored: &[u8],
+    script: &[u8],
+    answers: &[u8],
+) -> Result<bool, Fail> {
+    let mut shelf = holding(alloc, stored)?;
+    let ended = run_on(alloc, "", script, NONE, &mut shelf, &SPILLED_IMAGE)?;
+    let got = ended.output.as_slice();
+    Ok(ended.status == 0 && got.strip_prefix(SETTINGS) == Some(answers))
+}
+
+/// The same where the store has another byte at one place.
+fn is_answered(alloc: Global, row: &(usize, u8, &[u8], &[u8])) -> Result<bool, Fail> {
     let stored = spoiled(alloc, SPILLED_STORE, row.0, row.1)?;
-    let mut shelf = holding(alloc, stored.as_slice())?;
-    let ended = run_on(alloc, "", row.2, NONE, &mut shelf, &SPILLED_IMAGE)?;
-    let mut want = SETTINGS.to_vec(alloc)?;
-    want.extend_from_slice(row.3)?;
-    Ok(ended.status == 0 && ended.output.as_slice() == want.as_slice())
+    is_answered_over(alloc, stored.as_slice(), row.2, row.3)
 }
 
 #[test]
 fn lists_in_slices_are_read(rt: HostRuntime) -> Result<(), Fail> {
-    for row in RUNS {
+    for row in RUNS.iter() {
         assert!(rt; is_answered(rt.alloc(), row)?, "{}", row.0);
     }
     Ok(())

@@ -2,12 +2,9 @@
 
 use std::alloc::Global;
 use std::test::Fail;
+use wtf_rows::row::ONE_SMALL;
 use wtf_trial::rows::is_answered;
 use wtf_trial::wanted::Wanted;
-
-const WORDS: &str = "--servers 1 --replicas 1 --region 64";
-
-const SETTINGS: &str = "wtf servers 1 replicas 1 region 64 number 0\n";
 
 /// How many regions the file has, each with a spilled list: two more than are remembered.
 const REGIONS: u64 = 66;
@@ -47,36 +44,54 @@ fn digits(alloc: Global) -> Result<String, Fail> {
     Ok(text)
 }
 
-/// A file of which each region has a spilled list.
-fn spilled(alloc: Global, digits: &str) -> Result<Wanted, Fail> {
-    let mut wanted = Wanted::new(alloc, SETTINGS)?;
-    let write = format!(in alloc; "c0 write f0 x:{digits} => ok\nc0 try => committed 1\n")?;
+/// Adds a file with these bytes.
+fn add_file(wanted: &mut Wanted, alloc: Global, digits: &str) -> Result<(), Fail> {
     wanted.add("c0 begin => begun 0\nc0 create /a => ok\nc0 open f0 /a => ok\n")?;
-    wanted.add(write.as_str())?;
-    for region in 0..REGIONS {
-        let number = region.saturating_add(2);
-        let job = format!(in alloc;
-            "sys plan j0 spill /a {region} => planned\nsys put j0 => installed {number}\n"
-        )?;
-        wanted.add(job.as_str())?;
-    }
-    Ok(wanted)
+    let write = format!(in alloc; "c0 write f0 x:{digits} => ok\nc0 try => committed 1\n")?;
+    wanted.add(write.as_str())
 }
 
-/// The file is shown, which reads all lists in order, and then looked at.
-fn looks(alloc: Global) -> Result<Wanted, Fail> {
-    let digits = digits(alloc)?;
-    let mut wanted = spilled(alloc, digits.as_str())?;
+/// Adds the job that spills the list of a region.
+fn add_spill(wanted: &mut Wanted, alloc: Global, region: u64) -> Result<(), Fail> {
+    let number = region.saturating_add(2);
+    let job = format!(in alloc;
+        "sys plan j0 spill /a {region} => planned\nsys put j0 => installed {number}\n"
+    )?;
+    wanted.add(job.as_str())
+}
+
+/// The same of each region.
+fn add_spills(wanted: &mut Wanted, alloc: Global) -> Result<(), Fail> {
+    for region in 0..REGIONS {
+        add_spill(wanted, alloc, region)?;
+    }
+    Ok(())
+}
+
+/// The file is shown, which reads all lists in order.
+fn add_dump(wanted: &mut Wanted, alloc: Global, digits: &str) -> Result<(), Fail> {
     let dump = format!(in alloc; "sys dump /a => data x:{digits}\n")?;
-    wanted.add(dump.as_str())?;
+    wanted.add(dump.as_str())
+}
+
+/// A file of which each region has a spilled list is shown, and then looked at.
+fn add_all(wanted: &mut Wanted, alloc: Global, digits: &str) -> Result<(), Fail> {
+    add_file(wanted, alloc, digits)?;
+    add_spills(wanted, alloc)?;
+    add_dump(wanted, alloc, digits)?;
     wanted.add("c0 begin => begun 67\nc0 open f0 /a => ok\n")?;
-    wanted.add(LOOKS)?;
-    Ok(wanted)
+    wanted.add(LOOKS)
+}
+
+fn are_remembered(alloc: Global) -> Result<bool, Fail> {
+    let mut wanted = Wanted::new(alloc, ONE_SMALL.line)?;
+    let digits = digits(alloc)?;
+    add_all(&mut wanted, alloc, digits.as_str())?;
+    is_answered(alloc, ONE_SMALL.words, &wanted)
 }
 
 #[test]
 fn lists_that_were_used_last_are_remembered(rt: HostRuntime) -> Result<(), Fail> {
-    let wanted = looks(rt.alloc())?;
-    assert!(rt; is_answered(rt.alloc(), WORDS, &wanted)?);
+    assert!(rt; are_remembered(rt.alloc())?);
     Ok(())
 }

@@ -3,13 +3,13 @@
 use crate::damage::spoiled;
 use std::alloc::Global;
 use std::test::Fail;
-use wtf_base::{InodeId, OutOfMemory, TxId};
+use wtf_base::{InodeId, TxId};
 use wtf_dev::{MemStore, Shelf, SliceStore};
 use wtf_image::{LoadError, Loaded, check, load, load_without, save};
 use wtf_path::Path;
 use wtf_trial::devices::stores;
 use wtf_trial::texts::EMPTY_IMAGE;
-use wtf_values::{Key, Value};
+use wtf_values::{Key, RegionValue, Value};
 
 /// The image of the root and a file in it.
 const FILE_IMAGE: [u8; 106] = [
@@ -60,10 +60,28 @@ const NO_PARENT: [u8; 19] = [
 
 /// An image, what the store of server 0 holds, and what is loaded: the servers, the replicas, the size of a region, the
 /// next transaction, and the number of installs.
-const LOADED: [(&[u8], &[u8], (u8, u8, u32, u64, u64)); 3] = [
-    (EMPTY_IMAGE, b"", (4, 2, 65_536, 1, 0)),
-    (&FILE_IMAGE, b"abcdef", (1, 1, 64, 2, 3)),
-    (&SPILLED_IMAGE, SPILLED_STORE, (1, 1, 64, 2, 3)),
+struct Loads {
+    image: &'static [u8],
+    stored: &'static [u8],
+    numbers: (u8, u8, u32, u64, u64),
+}
+
+const LOADED: [Loads; 3] = [
+    Loads {
+        image: EMPTY_IMAGE,
+        stored: b"",
+        numbers: (4, 2, 65_536, 1, 0),
+    },
+    Loads {
+        image: &FILE_IMAGE,
+        stored: b"abcdef",
+        numbers: (1, 1, 64, 2, 3),
+    },
+    Loads {
+        image: &SPILLED_IMAGE,
+        stored: SPILLED_STORE,
+        numbers: (1, 1, 64, 2, 3),
+    },
 ];
 
 /// What is refused of the image with a spilled list, where the byte at a place is this one.
@@ -92,15 +110,6 @@ fn joined(alloc: Global, front: &[u8], back: &[u8]) -> Result<Vec<u8>, Fail> {
     let mut out = front.to_vec(alloc)?;
     out.extend_from_slice(back)?;
     Ok(out)
-}
-
-/// The image of an empty store, with no server.
-fn no_server(alloc: Global) -> Result<Vec<u8>, Fail> {
-    let mut image = EMPTY_IMAGE.to_vec(alloc)?;
-    if let Some(servers) = image.get_mut(8) {
-        *servers = 0;
-    }
-    Ok(image)
 }
 
 /// 16 stores; file 0 of the first has these bytes.
@@ -136,8 +145,10 @@ fn early_refusal(alloc: Global, image: &[u8]) -> Option<LoadError> {
     check(alloc, image).err()
 }
 
-fn saved(alloc: Global, loaded: &Loaded) -> Result<Vec<u8>, OutOfMemory> {
-    save(alloc, &loaded.kv, loaded.settings, loaded.next_tx)
+/// Whether what was loaded is saved as this image.
+fn is_saved_as(alloc: Global, loaded: &Loaded, image: &[u8]) -> Result<bool, Fail> {
+    let saved = save(alloc, &loaded.kv, loaded.settings, loaded.next_tx)?;
+    Ok(saved.as_slice() == image)
 }
 
 /// The settings and the numbers that were loaded.
@@ -152,23 +163,16 @@ fn numbers_of(loaded: &Loaded) -> (u8, u8, u32, u64, u64) {
     )
 }
 
-/// Where region 0 of the file ends, and how many entries it has.
-fn region_of(loaded: &Loaded) -> Option<(u32, usize)> {
-    let inode = InodeId {
-        tx: TxId(1),
-        index: 2,
-    };
-    match loaded
-        .kv
-        .read_at(loaded.kv.number(), &Key::Region(inode, 0))
-    {
-        Some(Value::Region(region)) => Some((region.end, region.list.len())),
-        _ => None,
+/// How far the spilled list of a region is seen, and the length of its slice; zeros where it has none.
+fn spilled(region: &RegionValue) -> (u32, u32) {
+    match region.base {
+        Some(spill) => (spill.visible, spill.slice.len()),
+        None => (0, 0),
     }
 }
 
-/// How far the spilled list of region 0 of the file is seen, and the length of its slice.
-fn spilled_in(loaded: &Loaded) -> Option<(u32, u32)> {
+/// Whether region 0 of the file ends there, and has so many entries and this spilled list.
+fn is_region(loaded: &Loaded, end: u32, entries: usize, list: (u32, u32)) -> bool {
     let inode = InodeId {
         tx: TxId(1),
         index: 2,
@@ -177,11 +181,10 @@ fn spilled_in(loaded: &Loaded) -> Option<(u32, u32)> {
         .kv
         .read_at(loaded.kv.number(), &Key::Region(inode, 0))
     {
-        Some(Value::Region(region)) => match region.base {
-            Some(spill) => Some((spill.visible, spill.slice.len())),
-            None => None,
-        },
-        _ => None,
+        Some(Value::Region(region)) => {
+            region.end == end && region.list.len() == entries && spilled(region) == list
+        }
+        _ => false,
     }
 }
 
@@ -194,84 +197,70 @@ fn has_name(alloc: Global, loaded: &Loaded, name: &[u8]) -> Result<bool, Fail> {
     }
 }
 
-#[test]
-fn images_are_loaded_and_saved_again(rt: HostRuntime) -> Result<(), Fail> {
-    for (image, stored, want) in LOADED {
-        let loaded = loaded(rt.alloc(), image, stored)?;
-        assert_eq!(rt; numbers_of(&loaded), want);
-        let saved = saved(rt.alloc(), &loaded)?;
-        assert_eq!(rt; saved.as_slice(), image);
-        assert_eq!(rt; early_refusal(rt.alloc(), image), None);
-    }
-    Ok(())
+/// Whether an image is loaded with these numbers, and saved again as it was.
+fn is_loaded(alloc: Global, row: &Loads) -> Result<bool, Fail> {
+    let loaded = loaded(alloc, row.image, row.stored)?;
+    let numbers = numbers_of(&loaded) == row.numbers;
+    Ok(
+        is_saved_as(alloc, &loaded, row.image)?
+            && numbers
+            && early_refusal(alloc, row.image).is_none(),
+    )
 }
 
-#[test]
-fn a_file_is_read(rt: HostRuntime) -> Result<(), Fail> {
-    let loaded = loaded(rt.alloc(), &FILE_IMAGE, b"abcdef")?;
-    assert_eq!(rt; region_of(&loaded), Some((6, 1)));
-    assert!(rt; has_name(rt.alloc(), &loaded, b"a")?);
-    Ok(())
+/// Whether the file of an image is read as it should be.
+fn is_file_read(alloc: Global) -> Result<bool, Fail> {
+    let loaded = loaded(alloc, &FILE_IMAGE, b"abcdef")?;
+    Ok(has_name(alloc, &loaded, b"a")? && is_region(&loaded, 6, 1, (0, 0)))
 }
 
-#[test]
-fn a_spilled_list_is_read(rt: HostRuntime) -> Result<(), Fail> {
-    let loaded = loaded(rt.alloc(), &SPILLED_IMAGE, SPILLED_STORE)?;
-    assert_eq!(rt; region_of(&loaded), Some((8, 1)));
-    assert_eq!(rt; spilled_in(&loaded), Some((5, 28)));
-    Ok(())
+fn is_list_read(alloc: Global) -> Result<bool, Fail> {
+    let loaded = loaded(alloc, &SPILLED_IMAGE, SPILLED_STORE)?;
+    Ok(is_region(&loaded, 8, 1, (5, 28)))
 }
 
-#[test]
-fn refuses_in_order(rt: HostRuntime) -> Result<(), Fail> {
-    let alloc = rt.alloc();
-    let no_server = no_server(alloc)?;
+/// Whether an image is refused like this, over what server 0 holds.
+fn is_refused(
+    alloc: Global,
+    image: &[u8],
+    stored: &[u8],
+    want: Option<LoadError>,
+) -> Result<bool, Fail> {
+    Ok(refusal(alloc, image, stored)? == want)
+}
+
+fn is_orphan_refused(alloc: Global) -> Result<bool, Fail> {
     let orphan = joined(alloc, &FILE_IMAGE[..30], &NO_PARENT)?;
-    for (image, stored, want) in [
-        (FILE_IMAGE.as_slice(), b"abcdef".as_slice(), None),
-        (&FILE_IMAGE, b"abcde", Some(LoadError::PointerOutside)),
-        (orphan.as_slice(), b"", Some(LoadError::BadTree)),
-        (no_server.as_slice(), b"", Some(LoadError::BadSettings)),
-    ] {
-        assert_eq!(rt; refusal(alloc, image, stored)?, want);
-    }
-    Ok(())
+    is_refused(alloc, orphan.as_slice(), b"", Some(LoadError::BadTree))
 }
 
-#[test]
-fn other_shapes_are_no_image(rt: HostRuntime) -> Result<(), Fail> {
-    let alloc = rt.alloc();
-    let no_server = no_server(alloc)?;
-    assert_eq!(rt;
-        early_refusal(alloc, no_server.as_slice()),
-        Some(LoadError::BadSettings)
-    );
+/// Whether the image of an empty store is refused where it has no server, with and without a look at the rest.
+fn is_no_server_refused(alloc: Global) -> Result<bool, Fail> {
+    let image = spoiled(alloc, EMPTY_IMAGE, 8, 0)?;
+    let early = early_refusal(alloc, image.as_slice()) == Some(LoadError::BadSettings);
+    Ok(is_refused(alloc, image.as_slice(), b"", Some(LoadError::BadSettings))? && early)
+}
+
+/// Whether a byte behind an image makes it none.
+fn is_longer_refused(alloc: Global) -> Result<bool, Fail> {
     let longer = joined(alloc, &FILE_IMAGE, b"!")?;
-    assert_eq!(rt;
-        early_refusal(alloc, longer.as_slice()),
-        Some(LoadError::NotAnImage)
-    );
-    for n in 0..FILE_IMAGE.len() {
-        assert_eq!(rt;
-            early_refusal(alloc, &FILE_IMAGE[..n]),
-            Some(LoadError::NotAnImage),
-            "{n}"
-        );
-    }
-    Ok(())
+    Ok(early_refusal(alloc, longer.as_slice()) == Some(LoadError::NotAnImage))
 }
 
-#[test]
-fn spilled_lists_are_refused(rt: HostRuntime) -> Result<(), Fail> {
-    for (at, byte, want) in SPOILED {
-        let image = spoiled(rt.alloc(), &SPILLED_IMAGE, at, byte)?;
-        assert_eq!(rt;
-            refusal(rt.alloc(), image.as_slice(), SPILLED_STORE)?,
-            want,
-            "byte {at}"
-        );
+/// The length of the first front of an image that is one, or of the whole.
+fn first_front(alloc: Global) -> usize {
+    for n in 0..FILE_IMAGE.len() {
+        if early_refusal(alloc, &FILE_IMAGE[..n]) != Some(LoadError::NotAnImage) {
+            return n;
+        }
     }
-    Ok(())
+    FILE_IMAGE.len()
+}
+
+/// Whether the image with a spilled list is refused like this where the byte at a place is this one.
+fn is_list_refused(alloc: Global, row: &(usize, u8, Option<LoadError>)) -> Result<bool, Fail> {
+    let image = spoiled(alloc, &SPILLED_IMAGE, row.0, row.1)?;
+    is_refused(alloc, image.as_slice(), SPILLED_STORE, row.2)
 }
 
 /// The number of installs of an image that is loaded where server 1 is lost, over 16 stores.
@@ -287,20 +276,64 @@ fn load_without_one(
     Ok(loaded.kv.number())
 }
 
-/// The same, where file 0 of server 0 holds bytes, and no other server does.
-fn number_without_one(alloc: Global, image: &[u8], stored: &[u8]) -> Result<u64, Fail> {
-    let shelf = holding(alloc, stored)?;
+/// The same, where file 0 of server 0 holds six bytes, and no other server does.
+fn number_without_one(alloc: Global, image: &[u8]) -> Result<u64, Fail> {
+    let shelf = holding(alloc, b"abcdef")?;
     Ok(load_without_one(alloc, image, &shelf)?)
 }
 
 #[test]
-fn the_store_of_a_lost_server_is_not_tried(rt: HostRuntime) -> Result<(), Fail> {
-    for (image, want) in [
-        (COPIED_IMAGE.as_slice(), Some(LoadError::PointerOutside)),
-        (&FILE_IMAGE, None),
-    ] {
-        assert_eq!(rt; refusal(rt.alloc(), image, b"abcdef")?, want);
-        assert_eq!(rt; number_without_one(rt.alloc(), image, b"abcdef")?, 3);
+fn images_are_loaded_and_saved_again(rt: HostRuntime) -> Result<(), Fail> {
+    for row in LOADED.iter() {
+        assert!(rt; is_loaded(rt.alloc(), row)?);
     }
+    Ok(())
+}
+
+#[test]
+fn a_file_is_read(rt: HostRuntime) -> Result<(), Fail> {
+    assert!(rt; is_file_read(rt.alloc())?);
+    Ok(())
+}
+
+#[test]
+fn a_spilled_list_is_read(rt: HostRuntime) -> Result<(), Fail> {
+    assert!(rt; is_list_read(rt.alloc())?);
+    Ok(())
+}
+
+#[test]
+fn refuses_in_order(rt: HostRuntime) -> Result<(), Fail> {
+    let outside = Some(LoadError::PointerOutside);
+    assert!(rt; is_refused(rt.alloc(), &FILE_IMAGE, b"abcdef", None)?);
+    assert!(rt; is_refused(rt.alloc(), &FILE_IMAGE, b"abcde", outside)?);
+    assert!(rt; is_orphan_refused(rt.alloc())?);
+    assert!(rt; is_no_server_refused(rt.alloc())?);
+    Ok(())
+}
+
+#[test]
+fn other_shapes_are_no_image(rt: HostRuntime) -> Result<(), Fail> {
+    assert!(rt; is_no_server_refused(rt.alloc())?);
+    assert!(rt; is_longer_refused(rt.alloc())?);
+    assert_eq!(rt; first_front(rt.alloc()), FILE_IMAGE.len());
+    Ok(())
+}
+
+#[test]
+fn spilled_lists_are_refused(rt: HostRuntime) -> Result<(), Fail> {
+    for row in SPOILED.iter() {
+        assert!(rt; is_list_refused(rt.alloc(), row)?, "byte {}", row.0);
+    }
+    Ok(())
+}
+
+#[test]
+fn the_store_of_a_lost_server_is_not_tried(rt: HostRuntime) -> Result<(), Fail> {
+    let outside = Some(LoadError::PointerOutside);
+    assert!(rt; is_refused(rt.alloc(), &COPIED_IMAGE, b"abcdef", outside)?);
+    assert!(rt; is_refused(rt.alloc(), &FILE_IMAGE, b"abcdef", None)?);
+    assert_eq!(rt; number_without_one(rt.alloc(), &COPIED_IMAGE)?, 3);
+    assert_eq!(rt; number_without_one(rt.alloc(), &FILE_IMAGE)?, 3);
     Ok(())
 }
