@@ -1,7 +1,7 @@
 -- Which statuses a run may end with.
 use Rattle.std.specs.Prelude.{◌≡◌, ◌<◌, ◌⊎◌, ℕ, Bool, true, false, if◌then◌else◌}
-use Rattle.wtf_hostile.specs.declared.devices.Device.{Device}
-use Rattle.wtf_hostile.specs.declared.devices.Device.TheVariants.{Source, Sink, Keeper, Store}
+use Rattle.wtf_hostile.specs.declared.fault.Device.{Device}
+use Rattle.wtf_hostile.specs.declared.fault.Device.TheVariants.{Source, Sink, Keeper, Store}
 
 -- of which no device failed: whether a line was bad, and a server was down at the end
 abbrev pub due_status : Bool → Bool → ℕ

@@ -1,15 +1,17 @@
 //! Runs on images that are cut or spoiled.
 
-use crate::devices::{Ended, NONE, run, run_on, stores};
+use crate::devices::{Ended, run, stores};
+use crate::fault::{Fault, NONE};
 use crate::judge::is_lawful;
-use crate::rebuilt::{Rebuilt, lines_behind};
-use crate::report::{Counts, Wrong, tell};
-use crate::scripts::{LOG, Script};
-use crate::texts::{first_bytes, spoil, text_of};
-use crate::wear::are_answers;
+use crate::odd::OddStore;
+use crate::rebuilt::{Rebuilt, push_looks};
+use crate::report::{Counts, Wrong, told};
+use crate::scripts::LOG;
+use crate::texts::{behind_lines, first_bytes, first_lines, spoil, text_of};
+use crate::zeros::are_answers;
 use std::alloc::Global;
 use std::io;
-use wtf_dev::{MemStore, Shelf};
+use wtf_dev::Shelf;
 use wtf_serve::{FINISHED, IMAGE_REFUSED};
 
 /// The line of an image that ends too early.
@@ -27,34 +29,39 @@ const REFUSALS: [&[u8]; 4] = [
 const SPOILS: [u8; 4] = [0x00, 0x01, 0x80, 0xff];
 
 /// The image that the log leaves ends before each of its bytes in turn, but the first: it is refused, and stays.
-pub fn cut_images(rt: &HostRuntime) -> io::Result<Counts> {
-    let alloc = rt.alloc();
-    let mut counts = Counts::new();
-    let mut shelf = stores(alloc, &[])?;
-    let left = run(alloc, &LOG, &NONE, &mut shelf)?;
-    let image = left.kept.as_slice();
-    for at in 1..image.len() {
-        try_front(rt, &mut shelf, first_bytes(image, at), &mut counts)?;
+pub fn cut_images(rt: &HostRuntime, counts: &mut Counts) -> io::Result<()> {
+    let mut shelf = stores(rt.alloc(), &NONE)?;
+    let left = run(rt.alloc(), &LOG, &NONE, &mut shelf, &[])?;
+    each_front(rt, &mut shelf, left.kept(), counts)
+}
+
+/// Tries the fronts of an image.
+fn each_front(
+    rt: &HostRuntime,
+    shelf: &mut Shelf<OddStore>,
+    image: &[u8],
+    counts: &mut Counts,
+) -> io::Result<()> {
+    for at in 1..image.len() as u64 {
+        try_front(rt, shelf, first_bytes(image, at), counts)?;
     }
-    Ok(counts)
+    Ok(())
 }
 
 /// Runs a script on the front of an image.
 fn try_front(
     rt: &HostRuntime,
-    shelf: &mut Shelf<MemStore>,
+    shelf: &mut Shelf<OddStore>,
     front: &[u8],
     counts: &mut Counts,
 ) -> io::Result<()> {
-    let alloc = rt.alloc();
-    let ended = run_on(alloc, &LOG, shelf, front)?;
+    let fault = Fault {
+        at: front.len() as u64,
+        ..NONE
+    };
+    let ended = run(rt.alloc(), &LOG, &NONE, shelf, front)?;
     let found = wrong_refusal(&ended, front, &[NO_IMAGE]);
-    counts.add(found.is_some());
-    if let Some(wrong) = found {
-        let run = format!(in alloc; "an image of {} bytes", front.len())?;
-        tell(rt, wrong, run.as_str(), &ended)?;
-    }
-    Ok(())
+    told(rt, &LOG, &fault, found, &ended, counts)
 }
 
 /// What is wrong with a run that is to refuse an image, by one of these lines.
@@ -62,87 +69,117 @@ fn wrong_refusal(ended: &Ended, image: &[u8], lines: &[&[u8]]) -> Option<Wrong> 
     if ended.status != IMAGE_REFUSED {
         return Some(Wrong::Status);
     }
-    if !lines.iter().any(|line| *line == ended.output.as_slice()) {
+    if !is_one_of(ended.output(), lines) {
         return Some(Wrong::Text);
     }
-    if ended.kept.as_slice() != image {
+    if ended.kept() != image {
         return Some(Wrong::Kept);
     }
     None
 }
 
+/// Whether an output is one of these lines.
+fn is_one_of(output: &[u8], lines: &[&[u8]]) -> bool {
+    let mut one = false;
+    for line in lines.iter() {
+        one = one || *line == output;
+    }
+    one
+}
+
 /// Each byte of the image that the log leaves is spoiled in turn: the image is refused, and stays, or the run on it answers
 /// as one on the tree that it shows.
-pub fn spoiled_images(rt: &HostRuntime, all: bool) -> io::Result<Counts> {
-    let alloc = rt.alloc();
-    let mut counts = Counts::new();
-    let mut shelf = stores(alloc, &[])?;
-    let left = run(alloc, &LOG, &NONE, &mut shelf)?;
-    let image = left.kept.as_slice();
+pub fn spoiled_images(rt: &HostRuntime, all: bool, counts: &mut Counts) -> io::Result<()> {
+    let mut shelf = stores(rt.alloc(), &NONE)?;
+    let left = run(rt.alloc(), &LOG, &NONE, &mut shelf, &[])?;
+    each_spoiled(rt, &mut shelf, left.kept(), all, counts)
+}
+
+/// Tries another byte at each place of an image.
+fn each_spoiled(
+    rt: &HostRuntime,
+    shelf: &mut Shelf<OddStore>,
+    image: &[u8],
+    all: bool,
+    counts: &mut Counts,
+) -> io::Result<()> {
     for at in 0..image.len() {
         for byte in 0..=255u8 {
             if all || SPOILS.contains(&byte) {
-                let spoiled = spoil(alloc, image, at, byte)?;
-                try_spoiled(rt, &mut shelf, spoiled.as_slice(), at, byte, &mut counts)?;
+                try_spoiled(rt, shelf, image, at, byte, counts)?;
             }
         }
     }
-    Ok(counts)
+    Ok(())
 }
 
 /// Begins a run with an image of which one byte is another, and counts whether what came of it is right.
 fn try_spoiled(
     rt: &HostRuntime,
-    shelf: &mut Shelf<MemStore>,
+    shelf: &mut Shelf<OddStore>,
     image: &[u8],
     at: usize,
     byte: u8,
     counts: &mut Counts,
 ) -> io::Result<()> {
-    let alloc = rt.alloc();
-    let ended = run_on(alloc, &LOG.with_lines(b"sys tree\n"), shelf, image)?;
-    let found = if ended.status == IMAGE_REFUSED {
-        wrong_refusal(&ended, image, &REFUSALS)
-    } else {
-        wrong_taken(alloc, shelf, &ended, image)?
+    let fault = Fault {
+        at: at as u64,
+        with: u64::from(byte),
+        ..NONE
     };
-    counts.add(found.is_some());
-    if let Some(wrong) = found {
-        let run = format!(in alloc; "byte {at} of an image is {byte}")?;
-        tell(rt, wrong, run.as_str(), &ended)?;
-    }
-    Ok(())
+    let spoiled = spoil(rt.alloc(), image, at, byte)?;
+    let script = LOG.with_lines(b"sys tree\n");
+    let ended = run(rt.alloc(), &script, &NONE, shelf, spoiled.as_slice())?;
+    let found = wrong_spoiled(rt.alloc(), shelf, &ended, spoiled.as_slice())?;
+    told(rt, &script, &fault, found, &ended, counts)
 }
 
-/// What is wrong with the runs on an image that was taken. The first showed its tree.
-fn wrong_taken(
+/// What is wrong with a run on an image of which one byte is another.
+fn wrong_spoiled(
     alloc: Global,
-    shelf: &mut Shelf<MemStore>,
-    first: &Ended,
+    shelf: &mut Shelf<OddStore>,
+    ended: &Ended,
     image: &[u8],
 ) -> io::Result<Option<Wrong>> {
-    if first.status != FINISHED {
-        return Ok(Some(Wrong::Status));
+    if ended.status == FINISHED {
+        return wrong_taken(alloc, shelf, ended.output(), image);
     }
-    let lines = lines_behind(alloc, text_of(first.output.as_slice()))?;
-    let script = LOG.with_lines(lines.as_slice());
-    let ended = run_on(alloc, &script, shelf, image)?;
+    Ok(wrong_refusal(ended, image, &REFUSALS))
+}
+
+/// What is wrong with a run on an image that was taken, and whose tree was shown.
+fn wrong_taken(
+    alloc: Global,
+    shelf: &mut Shelf<OddStore>,
+    shown: &[u8],
+    image: &[u8],
+) -> io::Result<Option<Wrong>> {
+    let tree = first_lines(behind_lines(shown, 1), 1);
+    let mut lines = Vec::new(alloc);
+    push_looks(&mut lines, text_of(tree))?;
+    let ended = run(
+        alloc,
+        &LOG.with_lines(lines.as_slice()),
+        &NONE,
+        shelf,
+        image,
+    )?;
     if ended.status != FINISHED {
         return Ok(Some(Wrong::Status));
     }
-    if !are_answers(alloc, &script, ended.output.as_slice()) {
-        return Ok(Some(Wrong::Text));
-    }
-    is_as_on_its_tree(alloc, &script, &ended)
+    wrong_behind(alloc, lines.as_slice(), ended.output())
 }
 
-/// Whether a run on an image answers as one on an empty store would, behind lines that make the tree that it shows.
-fn is_as_on_its_tree(alloc: Global, script: &Script, ended: &Ended) -> io::Result<Option<Wrong>> {
-    let output = text_of(ended.output.as_slice());
-    let Some(rebuilt) = Rebuilt::of(alloc, text_of(script.lines), output)? else {
+/// What is wrong with the answers of a run on an image: one on an empty store would answer so, behind lines that make the tree that
+/// it shows.
+fn wrong_behind(alloc: Global, lines: &[u8], output: &[u8]) -> io::Result<Option<Wrong>> {
+    let mut rebuilt = Rebuilt::new(alloc);
+    let are_all = are_answers(alloc, &LOG.with_lines(lines), output);
+    if !are_all || !rebuilt.make(alloc, text_of(output))? {
         return Ok(Some(Wrong::Text));
-    };
-    if !is_lawful(alloc, rebuilt.lines.as_slice(), rebuilt.output.as_slice())? {
+    }
+    let (made, answers) = (rebuilt.lines.as_slice(), rebuilt.output.as_slice());
+    if !is_lawful(alloc, [made, lines, &[]], [answers, &[], &[]]) {
         return Ok(Some(Wrong::Unlawful));
     }
     Ok(None)

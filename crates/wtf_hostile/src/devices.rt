@@ -1,56 +1,68 @@
-//! Devices in memory, of which some calls fail, and runs over them.
+//! Devices in memory, of which one is odd, and runs over them.
 
+use crate::fault::{Device, Fault};
+use crate::odd::OddStore;
 use crate::scripts::Script;
+use crate::streams::{Drip, Sip};
 use std::alloc::Global;
 use std::io;
-use wtf_dev::{Keeper, MemKeeper, MemSink, MemSource, MemStore, Shelf, Sink, SliceStore, Source};
+use wtf_dev::{Keeper, MemKeeper, Shelf, Sink, SliceStore, Source};
 use wtf_serve::wtf;
 
-/// A device of a run.
-#[derive(Clone, Copy, Debug, PartialEq, Eq)]
-pub enum Device {
-    Source,
-    Sink,
-    Keeper,
-    /// The store of this server.
-    Store(u8),
-}
-
-/// So many calls of a device fail, from this one on.
-#[derive(Clone, Copy)]
-pub struct Fault {
-    pub device: Device,
-    pub call: u64,
-    pub count: u64,
-}
-
-/// No call fails.
-pub const NONE: Fault = Fault {
-    device: Device::Source,
-    call: 0,
-    count: 0,
-};
-
-impl Fault {
-    /// The calls of a device that fail.
-    fn calls(&self, alloc: Global, device: Device) -> io::Result<Vec<u64>> {
-        let mut calls = Vec::new(alloc);
-        if device == self.device {
-            for i in 0..self.count {
-                calls.push(self.call.saturating_add(i))?;
-            }
-        }
-        Ok(calls)
-    }
-}
-
-/// What a run came to: its status, what it wrote, what the keeper then holds, and how many calls of devices failed.
+/// What a run came to: its status, how many calls of devices failed, the sink and the keeper.
 #[derive(Drop)]
 pub struct Ended {
     pub status: u8,
-    pub output: Vec<u8>,
-    pub kept: Vec<u8>,
     pub rose: u64,
+    pub sink: Sip,
+    keeper: MemKeeper,
+}
+
+impl Ended {
+    /// The devices of a run that is to begin, with a keeper that holds these bytes.
+    pub fn new(alloc: Global, fault: &Fault, kept: &[u8]) -> io::Result<Ended> {
+        let keeper = keeper_of(alloc, &fault.on(Device::Keeper), kept)?;
+        Ok(Ended {
+            status: 0,
+            rose: 0,
+            sink: Sip::new(alloc, fault.on(Device::Sink)),
+            keeper,
+        })
+    }
+
+    /// What it wrote.
+    pub fn output(&self) -> &[u8] {
+        self.sink.taken()
+    }
+
+    /// What the keeper then holds.
+    pub fn kept(&self) -> &[u8] {
+        self.keeper.held()
+    }
+}
+
+/// A keeper that holds these bytes, of which calls fail where the fault says so.
+fn keeper_of(alloc: Global, fault: &Fault, kept: &[u8]) -> io::Result<MemKeeper> {
+    let mut calls = Vec::new(alloc);
+    for i in 0..fault.count() {
+        calls.push(fault.at.saturating_add(i))?;
+    }
+    Ok(MemKeeper::new(alloc, kept.to_vec(alloc)?, calls))
+}
+
+/// How many calls of a keeper failed, which makes all that were to fail and were not made.
+fn failed_in(alloc: Global, fault: &Fault, keeper: &mut MemKeeper) -> u64 {
+    let count = fault.count();
+    if count == 0 {
+        return 0;
+    }
+    let mut failed = count;
+    for _ in 0..fault.at.saturating_add(count) {
+        if keeper.load(alloc).is_err() {
+            failed = failed.saturating_sub(1);
+        }
+    }
+    failed
 }
 
 /// The shelf of 1 to 16 stores.
@@ -61,30 +73,44 @@ pub fn shelf_of<S: Drop>(alloc: Global, stores: Vec<S>) -> io::Result<Shelf<S>> 
     Ok(Shelf::new(alloc, stores))
 }
 
-/// An empty store, which fails where one of these says so.
-fn store_of(alloc: Global, k: u8, faults: &[Fault]) -> io::Result<MemStore> {
-    let mut calls = Vec::new(alloc);
-    for fault in faults.iter() {
-        calls.extend_from_slice(fault.calls(alloc, Device::Store(k))?.as_slice())?;
-    }
-    Ok(MemStore::new(alloc, calls))
-}
-
-/// Sixteen empty stores.
-pub fn stores(alloc: Global, faults: &[Fault]) -> io::Result<Shelf<MemStore>> {
+/// Sixteen empty stores, which are odd where the fault says so.
+pub fn stores(alloc: Global, fault: &Fault) -> io::Result<Shelf<OddStore>> {
     let mut stores = Vec::new(alloc);
     for k in 0..16u8 {
-        stores.push(store_of(alloc, k, faults)?)?;
+        stores.push(OddStore::new(alloc, fault.on_store(k)))?;
     }
     shelf_of(alloc, stores)
 }
 
+/// How often the store of a server failed; its calls fail no more.
+pub fn settled(shelf: &mut Shelf<OddStore>, k: u8) -> u64 {
+    if k < shelf.len() {
+        return shelf.store(k).settle();
+    }
+    0
+}
+
+/// How often all stores failed; their calls fail no more.
+fn all_settled(shelf: &mut Shelf<OddStore>) -> u64 {
+    let mut sum = 0u64;
+    for k in 0..16u8 {
+        sum = sum.saturating_add(settled(shelf, k));
+    }
+    sum
+}
+
 /// The words of the program that ask for the store of a script.
 pub fn words_of(alloc: Global, script: &Script) -> io::Result<Vec<String>> {
+    let (servers, replicas) = (u32::from(script.servers), u32::from(script.replicas));
+    let settings = [
+        ("servers", servers),
+        ("replicas", replicas),
+        ("region", script.region),
+    ];
     let mut words = Vec::new(alloc);
-    words.push(format!(in alloc; "--servers={}", script.servers)?)?;
-    words.push(format!(in alloc; "--replicas={}", script.replicas)?)?;
-    words.push(format!(in alloc; "--region={}", script.region)?)?;
+    for (name, value) in settings.iter() {
+        words.push(format!(in alloc; "--{name}={value}")?)?;
+    }
     Ok(words)
 }
 
@@ -100,118 +126,22 @@ fn answer<I: Source, O: Sink, S: SliceStore, K: Keeper>(
     wtf(alloc, words, source, sink, shelf, keeper)
 }
 
-/// Runs a script over any source, sink and stores.
-pub fn run_over<I: Source, O: Sink, S: SliceStore>(
-    alloc: Global,
-    script: &Script,
-    source: &mut I,
-    sink: &mut O,
-    shelf: &mut Shelf<S>,
-    keeper: &mut MemKeeper,
-) -> io::Result<u8> {
-    let words = words_of(alloc, script)?;
-    Ok(answer(alloc, words.as_slice(), source, sink, shelf, keeper))
-}
-
-/// Runs a script over stores that do not count, where no other device fails.
-pub fn run_on<S: SliceStore>(
-    alloc: Global,
-    script: &Script,
-    shelf: &mut Shelf<S>,
-    kept: &[u8],
-) -> io::Result<Ended> {
-    let mut source = MemSource::new(alloc, script.lines.to_vec(alloc)?, Vec::new(alloc));
-    let mut sink = MemSink::new(alloc, Vec::new(alloc));
-    let mut keeper = MemKeeper::new(alloc, kept.to_vec(alloc)?, Vec::new(alloc));
-    let status = run_over(alloc, script, &mut source, &mut sink, shelf, &mut keeper)?;
-    Ok(Ended {
-        status,
-        output: sink.taken().to_vec(alloc)?,
-        kept: keeper.held().to_vec(alloc)?,
-        rose: 0,
-    })
-}
-
-/// Runs a script over devices that never failed before, and a keeper that holds nothing. Then no call that is to fail is
-/// left.
+/// Runs a script over these stores, and a keeper that holds these bytes. Then no call fails any more.
 pub fn run(
     alloc: Global,
     script: &Script,
     fault: &Fault,
-    shelf: &mut Shelf<MemStore>,
+    shelf: &mut Shelf<OddStore>,
+    kept: &[u8],
 ) -> io::Result<Ended> {
-    let lines = script.lines.to_vec(alloc)?;
-    let mut source = MemSource::new(alloc, lines, fault.calls(alloc, Device::Source)?);
-    let mut sink = MemSink::new(alloc, fault.calls(alloc, Device::Sink)?);
-    let keeps = fault.calls(alloc, Device::Keeper)?;
-    let mut keeper = MemKeeper::new(alloc, Vec::new(alloc), keeps);
-    let status = run_over(alloc, script, &mut source, &mut sink, shelf, &mut keeper)?;
-    let output = sink.taken().to_vec(alloc)?;
-    let kept = keeper.held().to_vec(alloc)?;
-    let left = match fault.device {
-        Device::Source => left_of_source(fault, &mut source),
-        Device::Sink => left_of_sink(fault, &mut sink),
-        Device::Keeper => left_of_keeper(alloc, fault, &mut keeper),
-        Device::Store(k) => left_of_store(fault, shelf, k),
-    };
-    Ok(Ended {
-        status,
-        output,
-        kept,
-        rose: fault.count.saturating_sub(left),
-    })
-}
-
-/// How many calls there may be up to the last one that is to fail.
-fn most(fault: &Fault) -> u64 {
-    fault.call.saturating_add(fault.count)
-}
-
-/// Makes the calls of a source that were to fail and were not made: how many there are.
-fn left_of_source(fault: &Fault, source: &mut MemSource) -> u64 {
-    let mut left = 0u64;
-    for _ in 0..most(fault) {
-        if source.read(&mut []).is_err() {
-            left = left.saturating_add(1);
-        }
-    }
-    left
-}
-
-/// How many of the sink's failures are left.
-fn left_of_sink(fault: &Fault, sink: &mut MemSink) -> u64 {
-    let mut left = 0u64;
-    for _ in 0..most(fault) {
-        if sink.write(&[]).is_err() {
-            left = left.saturating_add(1);
-        }
-    }
-    left
-}
-
-/// How many of the keeper's failures are left.
-fn left_of_keeper(alloc: Global, fault: &Fault, keeper: &mut MemKeeper) -> u64 {
-    let mut left = 0u64;
-    for _ in 0..most(fault) {
-        if keeper.load(alloc).is_err() {
-            left = left.saturating_add(1);
-        }
-    }
-    left
-}
-
-/// Makes one more call on the store of a server, and says whether it failed.
-fn fails(shelf: &mut Shelf<MemStore>, k: u8) -> bool {
-    k < shelf.len() && shelf.store(k).sync().is_err()
-}
-
-/// Makes the calls of a store that were to fail and were not made: how many there are.
-pub fn left_of_store(fault: &Fault, shelf: &mut Shelf<MemStore>, k: u8) -> u64 {
-    let mut left = 0u64;
-    for _ in 0..most(fault) {
-        if fails(shelf, k) {
-            left = left.saturating_add(1);
-        }
-    }
-    left
+    let words = words_of(alloc, script)?;
+    let mut source = Drip::new([script.lines, &[], &[]], fault.on(Device::Source));
+    let mut ended = Ended::new(alloc, fault, kept)?;
+    let (sink, keeper) = (&mut ended.sink, &mut ended.keeper);
+    ended.status = answer(alloc, words.as_slice(), &mut source, sink, shelf, keeper);
+    let streams = source.faults().saturating_add(ended.sink.faults());
+    let kept = failed_in(alloc, &fault.on(Device::Keeper), &mut ended.keeper);
+    let rose = streams.saturating_add(kept);
+    ended.rose = rose.saturating_add(all_settled(shelf));
+    Ok(ended)
 }

@@ -1,57 +1,191 @@
-//! Runs in which calls of one device in memory fail: one alone, or all from one on.
+//! Runs over devices of which one is odd, or two are: of each script, each device, and of it each call or byte in turn.
 
-use crate::devices::{Device, Ended, Fault, NONE, left_of_store, run, stores};
+use crate::devices::{Ended, run, settled, stores};
+use crate::fault::{Device, EACH, Fault, How, NONE};
+use crate::journals;
 use crate::judge::wrong_in;
-use crate::report::{Counts, Wrong, tell};
+use crate::report::{Counts, told};
 use crate::scripts::{SCRIPTS, Script};
 use std::alloc::Global;
 use std::io;
 
-/// No script makes so many calls of a device.
+/// No script makes so many calls of a device, or stores so many bytes.
 const MOST: u64 = 1_000_000;
 
 /// How many calls fail of a device that fails for good.
 const FOR_GOOD: u64 = 60;
 
-/// Of each script and each device one call alone fails, in turn.
-pub fn one_call(rt: &HostRuntime) -> io::Result<Counts> {
-    let mut counts = Counts::new();
-    for script in SCRIPTS.iter() {
-        let whole = whole_run(rt.alloc(), script)?;
-        for device in [Device::Source, Device::Sink, Device::Keeper] {
-            each_call(rt, script, &whole, device, 1, &mut counts)?;
-        }
-        for k in 0..script.servers {
-            each_call(rt, script, &whole, Device::Store(k), 1, &mut counts)?;
-        }
-    }
-    Ok(counts)
+/// Which devices are odd in turn, and how.
+#[derive(Clone, Copy)]
+pub struct Row {
+    devices: &'static [Device],
+    /// Whether the store of each server is, too.
+    stores: bool,
+    how: How,
+    least: u64,
 }
 
-/// The keeper, or a store, fails for good from a call on, in turn.
-pub fn all_calls(rt: &HostRuntime) -> io::Result<Counts> {
-    let mut counts = Counts::new();
+/// One call alone fails.
+pub const ONE_CALL: Row = Row {
+    devices: &[Device::Source, Device::Sink, Device::Keeper],
+    stores: true,
+    how: How::Calls(1),
+    least: 1,
+};
+
+/// One call of what keeps bytes alone fails.
+pub const ONE_KEPT: Row = Row {
+    devices: &[Device::Keeper],
+    ..ONE_CALL
+};
+
+/// The keeper, or a store, fails for good.
+pub const ALL_CALLS: Row = Row {
+    how: How::Calls(FOR_GOOD),
+    ..ONE_KEPT
+};
+
+/// All stores, or one, take only so many bytes.
+pub const FULL: Row = Row {
+    devices: &[Device::Store(EACH)],
+    stores: true,
+    how: How::Bytes,
+    least: 1,
+};
+
+/// The disk of the journal, or of a store, fails for good, and then all are stopped.
+pub const STOPS: Row = Row {
+    how: How::Stops,
+    ..ONE_KEPT
+};
+
+/// The source, which gives one byte a call, fails for good, as where a run is killed.
+pub const SOURCES: Row = Row {
+    devices: &[Device::Source],
+    stores: false,
+    how: How::Bytes,
+    least: 1,
+};
+
+/// The sink, which takes one byte a call, fails for good.
+pub const SINKS: Row = Row {
+    devices: &[Device::Sink],
+    ..SOURCES
+};
+
+/// Nothing is odd: one run of each script.
+pub const SOUND: Row = Row {
+    devices: &[Device::Keeper],
+    stores: false,
+    how: How::Calls(0),
+    least: 0,
+};
+
+/// Tries each script.
+pub fn each_script(rt: &HostRuntime, row: &Row, counts: &mut Counts) -> io::Result<()> {
     for script in SCRIPTS.iter() {
-        let whole = whole_run(rt.alloc(), script)?;
-        each_call(rt, script, &whole, Device::Keeper, FOR_GOOD, &mut counts)?;
+        each_device(rt, script, row, counts)?;
+    }
+    Ok(())
+}
+
+/// Tries each device of a script.
+pub fn each_device(
+    rt: &HostRuntime,
+    script: &Script,
+    row: &Row,
+    counts: &mut Counts,
+) -> io::Result<()> {
+    let whole = whole_run(rt.alloc(), script, row.how)?;
+    for device in row.devices.iter() {
+        each_call(rt, script, whole.output(), row, *device, counts)?;
+    }
+    if row.stores {
         for k in 0..script.servers {
-            each_call(rt, script, &whole, Device::Store(k), FOR_GOOD, &mut counts)?;
+            each_call(rt, script, whole.output(), row, Device::Store(k), counts)?;
         }
     }
-    Ok(counts)
+    Ok(())
+}
+
+/// The run in which nothing fails.
+fn whole_run(alloc: Global, script: &Script, how: How) -> io::Result<Ended> {
+    if let How::Stops = how {
+        return journals::whole_run(alloc, script);
+    }
+    let mut shelf = stores(alloc, &NONE)?;
+    run(alloc, script, &NONE, &mut shelf, &[])
+}
+
+/// Tries the calls or bytes of a device in turn, until none fails any more.
+fn each_call(
+    rt: &HostRuntime,
+    script: &Script,
+    whole: &[u8],
+    row: &Row,
+    device: Device,
+    counts: &mut Counts,
+) -> io::Result<()> {
+    for at in 0..MOST {
+        let fault = Fault {
+            device,
+            how: row.how,
+            at,
+            least: row.least,
+            ..NONE
+        };
+        if !try_device(rt, script, whole, &fault, counts)? {
+            return Ok(());
+        }
+    }
+    Ok(())
+}
+
+/// Runs a script over a device that is odd, and says whether a call failed.
+fn try_device(
+    rt: &HostRuntime,
+    script: &Script,
+    whole: &[u8],
+    fault: &Fault,
+    counts: &mut Counts,
+) -> io::Result<bool> {
+    if let How::Stops = fault.how {
+        return journals::try_fault(rt, script, whole, fault, counts);
+    }
+    let (first, _) = try_fault(rt, script, whole, fault, counts)?;
+    Ok(first)
+}
+
+/// Runs a script over devices that are odd, and says whether a call failed, but those of the second server, and whether one of
+/// these did.
+pub fn try_fault(
+    rt: &HostRuntime,
+    script: &Script,
+    whole: &[u8],
+    fault: &Fault,
+    counts: &mut Counts,
+) -> io::Result<(bool, bool)> {
+    let alloc = rt.alloc();
+    let mut shelf = stores(alloc, fault)?;
+    let ended = run(alloc, script, fault, &mut shelf, &[])?;
+    let second = settled(&mut shelf, fault.server);
+    let found = wrong_in(alloc, script, whole, fault, &ended, &mut shelf)?;
+    if ended.rose >= fault.least || found.is_some() {
+        told(rt, script, fault, found, &ended, counts)?;
+    }
+    Ok((ended.rose > second, second > 0))
 }
 
 /// The stores of two servers fail, at a call each, in turn.
-pub fn two_calls(rt: &HostRuntime) -> io::Result<Counts> {
-    let mut counts = Counts::new();
+pub fn two_calls(rt: &HostRuntime, counts: &mut Counts) -> io::Result<()> {
     for script in SCRIPTS.iter() {
         for b in 0..script.servers {
             for a in 0..b {
-                each_pair(rt, script, a, b, &mut counts)?;
+                each_pair(rt, script, a, b, counts)?;
             }
         }
     }
-    Ok(counts)
+    Ok(())
 }
 
 /// Tries the calls of two stores in turn.
@@ -62,132 +196,34 @@ fn each_pair(
     b: u8,
     counts: &mut Counts,
 ) -> io::Result<()> {
-    for call in 0..MOST {
-        let first = Fault {
+    for at in 0..MOST {
+        let fault = Fault {
             device: Device::Store(a),
-            call,
-            count: 1,
+            how: How::Calls(1),
+            at,
+            server: b,
+            with: 0,
+            least: 2,
         };
-        if !each_second(rt, script, &first, b, counts)? {
+        if !each_second(rt, script, &fault, counts)? {
             return Ok(());
         }
     }
     Ok(())
 }
 
-/// Tries the calls of a second store in turn, and says whether the call of the first was made in the last run.
+/// Tries the calls of the second store in turn, and says whether the call of the first was made in the last run.
 fn each_second(
     rt: &HostRuntime,
     script: &Script,
-    first: &Fault,
-    b: u8,
-    counts: &mut Counts,
-) -> io::Result<bool> {
-    for call in 0..MOST {
-        let second = Fault {
-            device: Device::Store(b),
-            call,
-            count: 1,
-        };
-        let (one, two) = try_pair(rt, script, first, &second, b, counts)?;
-        if !two {
-            return Ok(one);
-        }
-    }
-    Ok(false)
-}
-
-/// Runs a script in which a call of each of two stores fails, and says which of both were made.
-fn try_pair(
-    rt: &HostRuntime,
-    script: &Script,
-    first: &Fault,
-    second: &Fault,
-    b: u8,
-    counts: &mut Counts,
-) -> io::Result<(bool, bool)> {
-    let alloc = rt.alloc();
-    let mut shelf = stores(alloc, &[*first, *second])?;
-    let mut ended = run(alloc, script, first, &mut shelf)?;
-    let one = ended.rose > 0;
-    let two = left_of_store(second, &mut shelf, b) == 0;
-    ended.rose = ended.rose.saturating_add(u64::from(two));
-    let found = wrong_in(alloc, script, first, &ended, &mut shelf)?;
-    if (one && two) || found.is_some() {
-        counts.add(found.is_some());
-    }
-    if let Some(wrong) = found {
-        let (name, device, call, other) = (script.name, first.device, first.call, second.call);
-        let run = format!(in alloc;
-            "'{name}', {device:?} fails at call {call}, that of {b} at {other}"
-        )?;
-        tell(rt, wrong, run.as_str(), &ended)?;
-    }
-    Ok((one, two))
-}
-
-/// The run in which nothing fails.
-pub fn whole_run(alloc: Global, script: &Script) -> io::Result<Ended> {
-    let mut shelf = stores(alloc, &[])?;
-    run(alloc, script, &NONE, &mut shelf)
-}
-
-/// Tries the calls of a device in turn, until none fails any more.
-pub fn each_call(
-    rt: &HostRuntime,
-    script: &Script,
-    whole: &Ended,
-    device: Device,
-    count: u64,
-    counts: &mut Counts,
-) -> io::Result<()> {
-    for call in 0..MOST {
-        let fault = Fault {
-            device,
-            call,
-            count,
-        };
-        if !try_fault(rt, script, whole, &fault, counts)? {
-            return Ok(());
-        }
-    }
-    Ok(())
-}
-
-/// Runs a script in which these calls fail, and says whether one of them was made.
-fn try_fault(
-    rt: &HostRuntime,
-    script: &Script,
-    whole: &Ended,
     fault: &Fault,
     counts: &mut Counts,
 ) -> io::Result<bool> {
-    let alloc = rt.alloc();
-    let mut shelf = stores(alloc, &[*fault])?;
-    let ended = run(alloc, script, fault, &mut shelf)?;
-    let found = match wrong_in(alloc, script, fault, &ended, &mut shelf)? {
-        Some(wrong) => Some(wrong),
-        None => wrong_front(whole, fault, &ended),
-    };
-    let failed = ended.rose > 0;
-    if failed || found.is_some() {
-        counts.add(found.is_some());
+    for with in 0..MOST {
+        let (first, second) = try_fault(rt, script, &[], &Fault { with, ..*fault }, counts)?;
+        if !second {
+            return Ok(first);
+        }
     }
-    if let Some(wrong) = found {
-        let (name, device, call) = (script.name, fault.device, fault.call);
-        let run = format!(in alloc; "'{name}', {device:?} fails at call {call}")?;
-        tell(rt, wrong, run.as_str(), &ended)?;
-    }
-    Ok(failed)
-}
-
-/// A source and a sink that fail change no answer.
-fn wrong_front(whole: &Ended, fault: &Fault, ended: &Ended) -> Option<Wrong> {
-    if fault.device != Device::Source && fault.device != Device::Sink {
-        return None;
-    }
-    if whole.output.as_slice().starts_with(ended.output.as_slice()) {
-        return None;
-    }
-    Some(Wrong::Text)
+    Ok(false)
 }

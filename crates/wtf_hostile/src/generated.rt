@@ -1,9 +1,7 @@
 //! Runs of scripts that are made from a number.
 
-use crate::devices::{Device, NONE, run, stores};
-use crate::faults::{each_call, whole_run};
-use crate::judge::wrong_in;
-use crate::report::{Counts, tell};
+use crate::faults::{Row, each_device};
+use crate::report::Counts;
 use crate::scripts::{GENERATED_LOOKS, Script};
 use std::alloc::Global;
 use std::io;
@@ -41,44 +39,17 @@ fn lines_of(alloc: Global, number: u64, count: u64) -> io::Result<Vec<u8>> {
     Ok(text)
 }
 
-/// Scripts of so many lines from the numbers 1 to this one, whose answers are judged line by line.
-pub fn whole(rt: &HostRuntime, numbers: u64, count: u64) -> io::Result<Counts> {
-    let mut counts = Counts::new();
+/// Tries the scripts of so many lines from the numbers 1 to this one.
+pub fn each_number(
+    rt: &HostRuntime,
+    numbers: u64,
+    count: u64,
+    row: &Row,
+    counts: &mut Counts,
+) -> io::Result<()> {
     for number in 1..=numbers {
-        try_number(rt, number, count, &mut counts)?;
-    }
-    Ok(counts)
-}
-
-/// Runs the script of a number.
-fn try_number(rt: &HostRuntime, number: u64, count: u64, counts: &mut Counts) -> io::Result<()> {
-    let alloc = rt.alloc();
-    let lines = lines_of(alloc, number, count)?;
-    let script = script_of(lines.as_slice());
-    let mut shelf = stores(alloc, &[])?;
-    let ended = run(alloc, &script, &NONE, &mut shelf)?;
-    let found = wrong_in(alloc, &script, &NONE, &ended, &mut shelf)?;
-    counts.add(found.is_some());
-    if let Some(wrong) = found {
-        let run = format!(in alloc; "{count} lines from {number}")?;
-        tell(rt, wrong, run.as_str(), &ended)?;
+        let lines = lines_of(rt.alloc(), number, count)?;
+        each_device(rt, &script_of(lines.as_slice()), row, counts)?;
     }
     Ok(())
-}
-
-/// Of a script of so many lines from each of the numbers 1 to this one one call of the keeper or of a store alone fails, in
-/// turn.
-pub fn faulted(rt: &HostRuntime, numbers: u64, count: u64) -> io::Result<Counts> {
-    let alloc = rt.alloc();
-    let mut counts = Counts::new();
-    for number in 1..=numbers {
-        let lines = lines_of(alloc, number, count)?;
-        let script = script_of(lines.as_slice());
-        let whole = whole_run(alloc, &script)?;
-        each_call(rt, &script, &whole, Device::Keeper, 1, &mut counts)?;
-        for k in 0..script.servers {
-            each_call(rt, &script, &whole, Device::Store(k), 1, &mut counts)?;
-        }
-    }
-    Ok(counts)
 }

@@ -5,11 +5,11 @@
 mod cuts;
 mod damage;
 mod devices;
+mod fault;
 mod faults;
 mod generated;
 mod journals;
 mod judge;
-mod lists;
 mod odd;
 mod rebuilt;
 mod report;
@@ -18,10 +18,57 @@ mod statuses;
 mod streams;
 mod tally;
 mod texts;
-mod wear;
+mod zeros;
 
+use crate::faults::{Row, each_script};
 use crate::report::{Counts, show};
 use std::{env, io};
+
+/// What a table tries.
+#[derive(Clone, Copy)]
+enum Tries {
+    /// Each script, over devices of which one is odd in turn.
+    Scripts(Row),
+    /// Scripts that are made from a number.
+    Numbers,
+    /// The same, over devices of which one is odd in turn.
+    Faulted,
+    TwoCalls,
+    CutScripts,
+    SpoiledScripts,
+    CutImages,
+    SpoiledImages,
+    Zeros,
+    Lists,
+}
+
+/// The tables, by name.
+const TABLES: [(&str, Tries); 15] = [
+    ("one call fails: faults", Tries::Scripts(faults::ONE_CALL)),
+    ("two calls fail: faults", Tries::TwoCalls),
+    (
+        "all calls fail from one on: faults",
+        Tries::Scripts(faults::ALL_CALLS),
+    ),
+    ("stores are full: faults", Tries::Scripts(faults::FULL)),
+    (
+        "a disk fails, with a journal: faults",
+        Tries::Scripts(faults::STOPS),
+    ),
+    ("scripts are cut: bytes", Tries::CutScripts),
+    ("scripts are spoiled: bytes", Tries::SpoiledScripts),
+    ("sources break off: bytes", Tries::Scripts(faults::SOURCES)),
+    ("sinks break off: bytes", Tries::Scripts(faults::SINKS)),
+    ("images are cut: bytes", Tries::CutImages),
+    ("images are spoiled: bytes", Tries::SpoiledImages),
+    ("stores answer zeros: runs", Tries::Zeros),
+    ("spilled lists are zeros: runs", Tries::Lists),
+    ("generated scripts: runs", Tries::Numbers),
+    (
+        "one call fails of generated scripts: faults",
+        Tries::Faulted,
+    ),
+];
 
 /// How much is tried of what has no end.
 #[derive(Clone, Copy)]
@@ -74,72 +121,36 @@ fn main(rt: HostRuntime) -> io::Result<()> {
 
 /// Tries all tables, and prints a line for each. Where a run was wrong that is an error.
 fn print(rt: &HostRuntime, pace: &Pace) -> io::Result<()> {
-    let faults = print_faults(rt)?;
-    let scripts = print_scripts(rt, pace)?;
-    let images = print_images(rt, pace)?;
-    let generated = print_generated(rt, pace)?;
-    if faults || scripts || images || generated {
+    let mut wrong = false;
+    for (name, tries) in TABLES.iter() {
+        let mut counts = Counts::new(*name);
+        try_table(rt, tries, pace, &mut counts)?;
+        show(rt, &counts)?;
+        wrong = wrong || counts.wrong > 0;
+    }
+    if wrong {
         return Err(io::Error::from(io::ErrorKind::InvalidData));
     }
     Ok(())
 }
 
-/// Prints the line of a table, and says whether a run was wrong.
-fn is_wrong(rt: &HostRuntime, name: &str, counts: io::Result<Counts>) -> io::Result<bool> {
-    let counts = counts?;
-    show(rt, name, &counts)?;
-    Ok(counts.wrong > 0)
-}
-
-/// The tables of devices that fail.
-fn print_faults(rt: &HostRuntime) -> io::Result<bool> {
-    let one = is_wrong(rt, "one call fails: faults", faults::one_call(rt))?;
-    let two = is_wrong(rt, "two calls fail: faults", faults::two_calls(rt))?;
-    let all = is_wrong(
-        rt,
-        "all calls fail from one on: faults",
-        faults::all_calls(rt),
-    )?;
-    let full = is_wrong(rt, "stores are full: faults", wear::full_disks(rt))?;
-    let stops = is_wrong(
-        rt,
-        "a disk fails, with a journal: faults",
-        journals::each_stop(rt),
-    )?;
-    Ok(one || two || all || full || stops)
-}
-
-/// The tables of bytes of scripts.
-fn print_scripts(rt: &HostRuntime, pace: &Pace) -> io::Result<bool> {
-    let cut = is_wrong(rt, "scripts are cut: bytes", cuts::cut_scripts(rt))?;
-    let spoiled = is_wrong(
-        rt,
-        "scripts are spoiled: bytes",
-        cuts::spoiled_scripts(rt, pace.values),
-    )?;
-    let source = is_wrong(rt, "sources break off: bytes", cuts::broken_sources(rt))?;
-    let sink = is_wrong(rt, "sinks break off: bytes", cuts::broken_sinks(rt))?;
-    Ok(cut || spoiled || source || sink)
-}
-
-/// The tables of bytes of images, and of stores that lie.
-fn print_images(rt: &HostRuntime, pace: &Pace) -> io::Result<bool> {
-    let front = is_wrong(rt, "images are cut: bytes", damage::cut_images(rt))?;
-    let spoiled = is_wrong(
-        rt,
-        "images are spoiled: bytes",
-        damage::spoiled_images(rt, pace.values),
-    )?;
-    let zeros = is_wrong(rt, "stores answer zeros: runs", wear::zeros(rt))?;
-    let lists = is_wrong(rt, "spilled lists are zeros: runs", lists::zeros(rt))?;
-    Ok(front || spoiled || zeros || lists)
-}
-
-/// The tables of generated scripts.
-fn print_generated(rt: &HostRuntime, pace: &Pace) -> io::Result<bool> {
-    let whole = generated::whole(rt, pace.numbers, pace.lines);
-    let whole = is_wrong(rt, "generated scripts: runs", whole)?;
-    let faulted = generated::faulted(rt, pace.faulted, pace.faulted_lines);
-    let faulted = is_wrong(rt, "one call fails of generated scripts: faults", faulted)?;
-    Ok(whole || faulted)
+/// Tries a table.
+fn try_table(rt: &HostRuntime, tries: &Tries, pace: &Pace, counts: &mut Counts) -> io::Result<()> {
+    match tries {
+        Tries::Scripts(row) => each_script(rt, row, counts),
+        Tries::Numbers => {
+            generated::each_number(rt, pace.numbers, pace.lines, &faults::SOUND, counts)
+        }
+        Tries::Faulted => {
+            let (numbers, lines) = (pace.faulted, pace.faulted_lines);
+            generated::each_number(rt, numbers, lines, &faults::ONE_KEPT, counts)
+        }
+        Tries::TwoCalls => faults::two_calls(rt, counts),
+        Tries::CutScripts => cuts::cut_scripts(rt, counts),
+        Tries::SpoiledScripts => cuts::spoiled_scripts(rt, pace.values, counts),
+        Tries::CutImages => damage::cut_images(rt, counts),
+        Tries::SpoiledImages => damage::spoiled_images(rt, pace.values, counts),
+        Tries::Zeros => zeros::zeros(rt, counts),
+        Tries::Lists => zeros::lists(rt, counts),
+    }
 }

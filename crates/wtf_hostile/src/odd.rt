@@ -1,22 +1,22 @@
-//! A store that takes only so many bytes, or answers zeros in place of what it holds.
+//! A store of which calls fail, or that takes only so many bytes, or that gives zeros in place of what it holds.
 
 ghost use Rattle.std.specs.Prelude.{◌≡◌, ◌≢◌, ◌<◌, ◌≤◌, ◌+◌, ◌^◌, ℕ, true, Some, [], ◌∷◌, length, IfOk, OnOk, OnErr};
 ghost use Rattle.wtf_dev.specs.Counts.{Rose};
 ghost use Rattle.wtf_dev.specs.Store.{Appended, Agrees, SameSizes, Kept};
 ghost use Rattle.wtf_hostile.specs.Odd.{odd_view, odd_store, odd_laws};
 
+use crate::fault::{Fault, How, NONE};
 use std::alloc::Global;
 use std::marker::Model;
 use wtf_dev::{Failed, MemStore, SliceStore};
 
-/// A store over one in memory, which never fails but for want of room.
+/// A store over one in memory, which never fails but where the fault says so.
 #[derive(Drop)]
 pub struct OddStore {
     store: MemStore,
-    /// Whether each byte that it gives is a zero.
-    zeros: bool,
-    /// How many bytes it takes yet.
-    room: u64,
+    fault: Fault,
+    calls: u64,
+    taken: u64,
     faults: u64,
 }
 
@@ -29,29 +29,31 @@ impl Model for OddStore {
 }
 
 impl OddStore {
-    /// An empty store that takes so many bytes.
-    pub fn full(alloc: Global, room: u64) -> OddStore {
+    /// An empty store, which is odd where the fault says so.
+    pub fn new(alloc: Global, fault: Fault) -> OddStore {
         OddStore {
             store: MemStore::new(alloc, Vec::new(alloc)),
-            zeros: false,
-            room,
+            fault,
+            calls: 0,
+            taken: 0,
             faults: 0,
         }
     }
 
-    /// An empty store that gives zeros.
-    pub fn zeros(alloc: Global) -> OddStore {
-        OddStore {
-            store: MemStore::new(alloc, Vec::new(alloc)),
-            zeros: true,
-            room: u64::MAX,
-            faults: 0,
+    /// How often it failed. No call fails any more, but for want of room.
+    pub fn settle(&mut self) -> u64 {
+        if let How::Calls(_) = self.fault.how {
+            self.fault = NONE;
         }
-    }
-
-    /// How often it failed.
-    pub fn faults(&self) -> u64 {
         self.faults
+    }
+
+    /// Whether it gives zeros.
+    fn gives_zeros(&self) -> bool {
+        match self.fault.how {
+            How::Zeros => true,
+            _ => false,
+        }
     }
 
     /// Counts a failure.
@@ -85,14 +87,16 @@ impl SliceStore for OddStore {
         ensures follows { Kept (odd_view self.old) (odd_view self.new) [] }
         ensures cause { OnErr result (Rose (odd_view self.old).faults (odd_view self.new).faults) }
     {
-        let len = bytes.len() as u64;
-        if len > self.room {
+        let sum = self.taken.saturating_add(bytes.len() as u64);
+        let due = self.fault.is_due(self.calls, sum);
+        self.calls = self.calls.saturating_add(1);
+        if due {
             return Err(self.raise());
         }
         let Ok(at) = self.store.append(file, bytes) else {
             return Err(self.raise());
         };
-        self.room -= len;
+        self.taken = sum;
         Ok(at)
     }
 
@@ -105,10 +109,15 @@ impl SliceStore for OddStore {
         ensures follows { Kept (odd_view self.old) (odd_view self.new) [] }
         ensures cause { OnErr result (Rose (odd_view self.old).faults (odd_view self.new).faults) }
     {
+        let due = self.fault.is_due(self.calls, self.taken);
+        self.calls = self.calls.saturating_add(1);
+        if due {
+            return Err(self.raise());
+        }
         let Ok(()) = self.store.read(file, at, out) else {
             return Err(self.raise());
         };
-        if self.zeros {
+        if self.gives_zeros() {
             out.fill(0);
         }
         Ok(())
@@ -132,6 +141,11 @@ impl SliceStore for OddStore {
             (record { file = file; at = at; len = len } ∷ []) }
         ensures cause { OnErr result (Rose (odd_view self.old).faults (odd_view self.new).faults) }
     {
+        let due = self.fault.is_due(self.calls, self.taken);
+        self.calls = self.calls.saturating_add(1);
+        if due {
+            return Err(self.raise());
+        }
         let Ok(()) = self.store.punch(file, at, len) else {
             return Err(self.raise());
         };
@@ -146,6 +160,11 @@ impl SliceStore for OddStore {
         ensures follows { Kept (odd_view self.old) (odd_view self.new) [] }
         ensures cause { OnErr result (Rose (odd_view self.old).faults (odd_view self.new).faults) }
     {
+        let due = self.fault.is_due(self.calls, self.taken);
+        self.calls = self.calls.saturating_add(1);
+        if due {
+            return Err(self.raise());
+        }
         let Ok(()) = self.store.sync() else {
             return Err(self.raise());
         };

@@ -19,16 +19,11 @@ sys tree
 sys dump /new
 ";
 
-/// Lines, and an output.
+/// Lines that make a tree, and an output.
 #[derive(Drop)]
 pub struct Rebuilt {
     pub lines: Vec<u8>,
     pub output: Vec<u8>,
-}
-
-/// The answer to the first line.
-fn first_answer(output: &str) -> &str {
-    output.split('\n').nth(1).unwrap_or("")
 }
 
 /// The path and the length of a file in the answer to `sys tree`.
@@ -39,17 +34,15 @@ fn file_of(word: &str) -> Option<(&str, &str)> {
     rest.rsplit_once(':')
 }
 
-/// The lines that look at a tree, which is the first answer of an output, and at each of its files, and then change it.
-pub fn lines_behind(alloc: Global, output: &str) -> io::Result<Vec<u8>> {
-    let mut lines = Vec::new(alloc);
-    lines.extend_from_slice(b"sys tree\n")?;
-    for word in first_answer(output).split(' ') {
+/// Appends the lines that look at a tree, which an answer shows, and at each of its files, and then change it.
+pub fn push_looks(lines: &mut Vec<u8>, tree: &str) -> io::Result<()> {
+    push_words(lines, &["sys tree\n"])?;
+    for word in tree.split(' ') {
         if let Some((path, _)) = file_of(word) {
-            push_words(&mut lines, &["sys dump ", path, "\n"])?;
+            push_words(lines, &["sys dump ", path, "\n"])?;
         }
     }
-    lines.extend_from_slice(CHANGES.as_bytes())?;
-    Ok(lines)
+    push_words(lines, &[CHANGES])
 }
 
 /// Appends words.
@@ -60,34 +53,48 @@ fn push_words(text: &mut Vec<u8>, words: &[&str]) -> io::Result<()> {
     Ok(())
 }
 
-/// The number of installs in a line of settings.
-fn number_in(settings: &str) -> Option<u64> {
-    let Some((_, number)) = settings.rsplit_once(' ') else {
+/// The number of installs in a line of settings, and what stands before it.
+fn number_in(settings: &str) -> Option<(&str, u64)> {
+    let Some((front, number)) = settings.rsplit_once(' ') else {
         return None;
     };
-    number.parse().ok()
+    let Ok(number) = number.parse() else {
+        return None;
+    };
+    Some((front, number))
+}
+
+/// The word and the number of an answer that has a number of installs.
+fn told_in(answer: &str) -> Option<(&str, u64)> {
+    if !answer.starts_with("begun ") && !answer.starts_with("committed ") {
+        return None;
+    }
+    number_in(answer)
 }
 
 impl Rebuilt {
-    /// The run of these lines on an image, which begin with those that look at its files, as one on an empty store. There
-    /// one transaction makes the tree, so that its number is 1 then.
-    pub fn of(alloc: Global, lines: &str, output: &str) -> io::Result<Option<Rebuilt>> {
-        let Some((settings, answers)) = output.split_once('\n') else {
-            return Ok(None);
-        };
-        let (Some((front, _)), Some(number)) = (settings.rsplit_once(' '), number_in(settings))
-        else {
-            return Ok(None);
-        };
-        let mut rebuilt = Rebuilt {
+    /// No line yet.
+    pub fn new(alloc: Global) -> Rebuilt {
+        Rebuilt {
             lines: Vec::new(alloc),
             output: Vec::new(alloc),
+        }
+    }
+
+    /// The lines that make the tree that a run on an image shows first, and the whole output of a run of these, and of the lines
+    /// of that run behind them, on an empty store. There one transaction makes the tree, so that its number is 1 then. Says
+    /// whether the output had its settings.
+    pub fn make(&mut self, alloc: Global, output: &str) -> io::Result<bool> {
+        let Some((settings, answers)) = output.split_once('\n') else {
+            return Ok(false);
         };
-        push_words(&mut rebuilt.output, &[front, " 0\n"])?;
-        rebuilt.make_tree(answers)?;
-        rebuilt.lines.extend_from_slice(lines.as_bytes())?;
-        rebuilt.go_on(alloc, answers, number)?;
-        Ok(Some(rebuilt))
+        let Some((front, number)) = number_in(settings) else {
+            return Ok(false);
+        };
+        push_words(&mut self.output, &[front, " 0\n"])?;
+        self.make_tree(answers)?;
+        self.go_on(alloc, answers, number)?;
+        Ok(true)
     }
 
     /// Adds a line and its answer.
@@ -136,25 +143,20 @@ impl Rebuilt {
     /// Adds the answers, with the numbers of installs from 1 on in place of those from the image's on.
     fn go_on(&mut self, alloc: Global, answers: &str, number: u64) -> io::Result<()> {
         for answer in answers.split('\n') {
-            if answer.is_empty() {
-                continue;
+            if !answer.is_empty() {
+                self.add_shifted(alloc, answer, number)?;
             }
-            let shifted = shifted(alloc, answer, number)?;
-            push_words(&mut self.output, &[shifted.as_str(), "\n"])?;
         }
         Ok(())
     }
-}
 
-/// An answer with a number of installs, written again with those from 1 on.
-fn shifted(alloc: Global, answer: &str, number: u64) -> io::Result<String> {
-    let Some((word, told)) = answer.split_once(' ') else {
-        return Ok(answer.to_string(alloc)?);
-    };
-    if word != "begun" && word != "committed" {
-        return Ok(answer.to_string(alloc)?);
+    /// Adds an answer, whose number of installs is another.
+    fn add_shifted(&mut self, alloc: Global, answer: &str, number: u64) -> io::Result<()> {
+        let Some((word, told)) = told_in(answer) else {
+            return push_words(&mut self.output, &[answer, "\n"]);
+        };
+        let now = told.wrapping_sub(number).wrapping_add(1);
+        let shifted = format!(in alloc; "{word} {now}\n")?;
+        push_words(&mut self.output, &[shifted.as_str()])
     }
-    let told: u64 = told.parse().unwrap_or(0);
-    let now = told.wrapping_sub(number).wrapping_add(1);
-    Ok(format!(in alloc; "{word} {now}")?)
 }

@@ -3,6 +3,8 @@
 ghost use Rattle.std.specs.Prelude.{◌≡◌, ◌+◌, ◌-◌, ◌^◌, min, if◌then◌else◌};
 
 use crate::devices::Ended;
+use crate::fault::Fault;
+use crate::scripts::Script;
 use crate::texts::text_of;
 use std::io;
 
@@ -30,17 +32,23 @@ pub enum Wrong {
 /// How many runs of a table were tried, and how many of these were wrong.
 #[derive(Clone, Copy)]
 pub struct Counts {
+    /// The name of the table.
+    name: &'static str,
     pub tried: u64,
     pub wrong: u64,
 }
 
 impl Counts {
     /// No run yet.
-    pub fn new() -> Counts
+    pub fn new(name: &'static str) -> Counts
         ensures tried { result.tried ≡ 0 }
         ensures wrong { result.wrong ≡ 0 }
     {
-        Counts { tried: 0, wrong: 0 }
+        Counts {
+            name,
+            tried: 0,
+            wrong: 0,
+        }
     }
 
     /// Counts a run. The counts stand still at the greatest number.
@@ -56,14 +64,30 @@ impl Counts {
     }
 }
 
-/// Tells of a run that is wrong: what it is, which run, and what it came to.
-pub fn tell(rt: &HostRuntime, wrong: Wrong, run: &str, ended: &Ended) -> io::Result<()> {
-    let (status, output) = (ended.status, text_of(ended.output.as_slice()));
-    println!(rt; "WRONG {wrong:?} in {run}: status {status}, output\n{output}")
+/// Counts a run of a script, and tells of one that is wrong: what it is, which run, and what it came to.
+pub fn told(
+    rt: &HostRuntime,
+    script: &Script,
+    fault: &Fault,
+    found: Option<Wrong>,
+    ended: &Ended,
+    counts: &mut Counts,
+) -> io::Result<()> {
+    counts.add(found.is_some());
+    let Some(wrong) = found else {
+        return Ok(());
+    };
+    let (table, name, status) = (counts.name, script.name, ended.status);
+    let (device, k) = (fault.device.name(), fault.device.number());
+    let (at, server, with) = (fault.at, fault.server, fault.with);
+    let output = text_of(ended.output());
+    println!(rt;
+        "WRONG {wrong:?} in {table}: '{name}', {device} {k} at {at}, {server} at {with}: status {status}, output\n{output}"
+    )
 }
 
 /// Prints the line of a table.
-pub fn show(rt: &HostRuntime, name: &str, counts: &Counts) -> io::Result<()> {
-    let (tried, wrong) = (counts.tried, counts.wrong);
+pub fn show(rt: &HostRuntime, counts: &Counts) -> io::Result<()> {
+    let (name, tried, wrong) = (counts.name, counts.tried, counts.wrong);
     println!(rt; "{name} tried {tried} wrong {wrong}")
 }

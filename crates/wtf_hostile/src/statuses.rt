@@ -3,7 +3,7 @@
 ghost use Rattle.std.specs.Prelude.{◌≡◌, ◌↔◌, IsTrue};
 ghost use Rattle.wtf_hostile.specs.Statuses.{MayEnd, due_status};
 
-use crate::devices::Device;
+use crate::fault::Device;
 use wtf_serve::{
     BAD_LINES, FINISHED, IMAGE_REFUSED, LOADING_FAILED, READING_FAILED, SAVING_FAILED,
     WRITING_FAILED,

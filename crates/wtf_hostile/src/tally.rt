@@ -1,7 +1,7 @@
 //! What the answers of a run say of its devices.
 
+use crate::scripts::Script;
 use crate::texts::{number_behind, text_of};
-use std::io;
 
 /// Which servers are down, of how many, and how many copies a slice has.
 #[derive(Clone, Copy)]
@@ -30,7 +30,11 @@ impl Servers {
 
     /// How many servers are down.
     fn count(&self) -> usize {
-        self.down.iter().filter(|down| **down).count()
+        let mut count = 0usize;
+        for down in self.down.iter() {
+            count = count.saturating_add(usize::from(*down));
+        }
+        count
     }
 
     /// Takes a server down, or up.
@@ -79,17 +83,16 @@ impl Servers {
     }
 }
 
-/// What the answers to lines say. The output has the settings before them.
-pub fn tally_of(servers: u8, replicas: u8, lines: &[u8], output: &str) -> Tally {
-    let down = [false; 16];
+/// What the answers to the lines of a script say. The output has the settings before them.
+pub fn tally_of(script: &Script, output: &str) -> Tally {
     let mut now = Servers {
-        down,
-        servers,
-        replicas,
+        down: [false; 16],
+        servers: script.servers,
+        replicas: script.replicas,
     };
     let mut faults = 0u64;
     let mut bad = false;
-    let lines = lines.split(|byte| *byte == b'\n');
+    let lines = script.lines.split(|byte| *byte == b'\n');
     for (line, answer) in lines.zip(output.split('\n').skip(1)) {
         faults = faults.saturating_add(now.failed_in(answer) as u64);
         bad = bad || answer.starts_with("bad ");
@@ -104,18 +107,14 @@ pub fn tally_of(servers: u8, replicas: u8, lines: &[u8], output: &str) -> Tally 
     }
 }
 
-/// Behind how many lines the tree stands that a keeper may hold, where these are answered and no more was saved.
-pub fn saved_points(output: &str, points: &mut Vec<usize>) -> io::Result<()> {
-    points.push(0)?;
-    let mut at = 0usize;
-    for answer in output.split('\n').skip(1) {
-        at = at.saturating_add(1);
+/// Behind how many lines the last save was answered, or 0.
+pub fn last_save(output: &str) -> usize {
+    let (mut at, mut last) = (0usize, 0usize);
+    for answer in output.split('\n') {
         if answer.starts_with("saved ") {
-            points.clear();
+            last = at;
         }
-        if answer.starts_with("saved ") || answer == "fault save" {
-            points.push(at)?;
-        }
+        at = at.saturating_add(1);
     }
-    Ok(())
+    last
 }

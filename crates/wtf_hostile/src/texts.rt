@@ -4,7 +4,13 @@ use std::alloc::{AllocError, Global};
 
 /// How many line feeds there are.
 pub fn feeds(text: &[u8]) -> usize {
-    text.iter().filter(|byte| **byte == b'\n').count()
+    let mut count = 0usize;
+    for byte in text.iter() {
+        if *byte == b'\n' {
+            count = count.saturating_add(1);
+        }
+    }
+    count
 }
 
 /// How many lines there are: bytes behind the last line feed are one too.
@@ -14,6 +20,14 @@ pub fn lines_in(text: &[u8]) -> usize {
         return whole;
     }
     whole.saturating_add(1)
+}
+
+/// The line feed that lacks behind lines, where they have none at their end.
+pub fn feed_behind(text: &[u8]) -> &'static [u8] {
+    if text.is_empty() || text.ends_with(b"\n") {
+        return b"";
+    }
+    b"\n"
 }
 
 /// The first lines, so many of them, with their line feeds.
@@ -43,9 +57,9 @@ pub fn behind_lines(text: &[u8], count: usize) -> &[u8] {
 }
 
 /// The first bytes, so many of them.
-pub fn first_bytes(text: &[u8], count: usize) -> &[u8] {
-    if count < text.len() {
-        return &text[..count];
+pub fn first_bytes(text: &[u8], count: u64) -> &[u8] {
+    if count < text.len() as u64 {
+        return &text[..count as usize];
     }
     text
 }
