@@ -46,8 +46,9 @@ pub fn next_word(behind: &[u8]) -> Option<(&[u8], &[u8])>
 pub fn is_word(word: &[u8], text: &[u8]) -> bool
     ensures { result ≡ bytes_eq word.now text.now }
 {
-    if word.len() != text.len() {
-        return false;
+    match (word, text) {
+        ([a], [b]) => a == b,
+        ([a, word @ ..], [b, text @ ..]) => a == b && word == text,
+        _ => word.is_empty() && text.is_empty(),
     }
-    word == text
 }

@@ -23,7 +23,7 @@ use Rattle.wtf_overlay.proofs.Shown.{compact_count}
 use Rattle.wtf_overlay.proofs.Tested.{test_compact, compact_test, entries_again, entries_made}
 use Rattle.wtf_spillfmt.specs.declared.error.ListError.{ListError}
 use Rattle.wtf_spillfmt.specs.declared.error.ListError.TheVariants as error
-use Rattle.wtf_spillfmt.specs.Gives.{IsNoneOr, no_list_by}
+use Rattle.wtf_spillfmt.specs.Parses.{IsNoneOr, no_list_by}
 use Rattle.wtf_spillfmt.specs.Lists.{AreBytes}
 use Rattle.wtf_spillfmt.proofs.Codecs.{Codec, IsBytes, some_is, bind_some, passed, codec_then, codec_only, counted_codec, codec32, text_codec}
 use Rattle.wtf_spillfmt.proofs.Forms.{entry_codec}

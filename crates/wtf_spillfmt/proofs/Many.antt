@@ -1,6 +1,6 @@
 -- Reading many things one after the other, as a loop does.
 use Rattle.std.proofs.Common.{◌≡◌, ℕ, suc, ◌-◌, ◌+◌, ◌<◌, List, [], ◌∷◌, ◌++◌, Option, Some, None, refl, sym, ap, ◌∙◌, append_assoc, arith}
-use Rattle.wtf_spillfmt.specs.Gives.{IsNoneOr}
+use Rattle.wtf_spillfmt.specs.Parses.{IsNoneOr}
 use Rattle.wtf_spillfmt.specs.declared.error.ListError.{ListError}
 use Rattle.wtf_spillfmt.specs.declared.error.ListError.TheVariants as error
 use Rattle.wtf_overlay.specs.Reading.{◌>>=◌, Reader, many_at}

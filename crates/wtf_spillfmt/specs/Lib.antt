@@ -1,3 +1,3 @@
-pub mod Gives
+pub mod Parses
 pub mod Writing
 pub mod Lists

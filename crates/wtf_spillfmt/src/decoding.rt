@@ -5,7 +5,7 @@ ghost use Rattle.wtf_overlay.specs.Clips.{Within};
 ghost use Rattle.wtf_overlay.specs.Rows.{entry_rows};
 ghost use Rattle.wtf_overlay.specs.Reading.{only_at, text_at};
 ghost use Rattle.wtf_overlay.specs.Spilled.{list_magic, is_list_magic, rows_in, only_compact, decoded};
-ghost use Rattle.wtf_spillfmt.specs.Gives.{Gives, IsNoneOr, no_list_by};
+ghost use Rattle.wtf_spillfmt.specs.Parses.{Parses, IsNoneOr, no_list_by};
 
 use crate::ListError;
 use crate::entries::entries_of;
@@ -27,7 +27,7 @@ pub fn decode(alloc: Global, bytes: &[u8], region: u32) -> Result<Overlay, ListE
 /// The entries of a region of so many bytes, as they stand in the bytes.
 #[tactic(auto, unfolding(wtf_overlay::specs::Spilled::rows_in, wtf_overlay::specs::Spilled::rows_at))]
 fn rows_of(alloc: Global, bytes: &[u8], region: u32) -> Result<Vec<Entry>, ListError>
-    ensures rows { Gives (λ v. entry_rows v.items) result (rows_in region bytes.now) }
+    ensures rows { Parses (λ v. entry_rows v.items) result (rows_in region bytes.now) }
     ensures within { IfOk result (λ v. Within region v.items) }
 {
     let rest = after_magic(bytes)?;
@@ -42,7 +42,7 @@ fn rows_of(alloc: Global, bytes: &[u8], region: u32) -> Result<Vec<Entry>, ListE
 /// The first four bytes, and those behind them.
 #[tactic(auto, unfolding(wtf_overlay::specs::Reading::text_at))]
 fn front_of(bytes: &[u8]) -> Result<(&[u8], &[u8]), ListError>
-    ensures { Gives (λ x. (x.0.now, x.1.now)) result (text_at 4 bytes.now) }
+    ensures { Parses (λ x. (x.0.now, x.1.now)) result (text_at 4 bytes.now) }
 {
     if bytes.len() < 4 {
         return Err(ListError::NotAList);
@@ -52,7 +52,7 @@ fn front_of(bytes: &[u8]) -> Result<(&[u8], &[u8]), ListError>
 
 /// What comes after the first bytes of a list.
 fn after_magic(bytes: &[u8]) -> Result<&[u8], ListError>
-    ensures { Gives (λ x. (list_magic, x.now)) result (only_at is_list_magic (text_at 4) bytes.now) }
+    ensures { Parses (λ x. (list_magic, x.now)) result (only_at is_list_magic (text_at 4) bytes.now) }
 {
     let (front, rest) = front_of(bytes)?;
     if front != b"WTFL".as_slice() {
@@ -64,7 +64,7 @@ fn after_magic(bytes: &[u8]) -> Result<&[u8], ListError>
 /// The list of these entries, if it is compact.
 fn list_of(alloc: Global, entries: Vec<Entry>, region: u32) -> Result<Overlay, ListError>
     requires { Within region entries.items }
-    ensures { Gives (λ o. o) result (only_compact entries.items) }
+    ensures { Parses (λ o. o) result (only_compact entries.items) }
 {
     match Overlay::of_compact(alloc, entries, region) {
         Ok(list) => Ok(list),

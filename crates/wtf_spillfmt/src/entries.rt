@@ -6,7 +6,7 @@ ghost use Rattle.wtf_overlay.specs.Clips.{Within};
 ghost use Rattle.wtf_overlay.specs.Lengths.{HasLength};
 ghost use Rattle.wtf_overlay.specs.Rows.{part_row, entry_row, entry_rows};
 ghost use Rattle.wtf_overlay.specs.Reading.{pointer_at, slice_at, part_at, entry_at, many_at};
-ghost use Rattle.wtf_spillfmt.specs.Gives.{Gives};
+ghost use Rattle.wtf_spillfmt.specs.Parses.{Parses};
 
 use crate::ListError;
 use crate::numbers::{u8_at, u32_at, u64_at};
@@ -17,7 +17,7 @@ use wtf_overlay::{Entry, Part};
 /// A pointer to `len` bytes.
 #[tactic(auto, unfolding(wtf_overlay::specs::Reading::pointer_at))]
 fn pointer_of(len: u32, bytes: &[u8]) -> Result<(Pointer, &[u8]), ListError>
-    ensures value { Gives (λ x. (x.0, x.1.now)) result (pointer_at len bytes.now) }
+    ensures value { Parses (λ x. (x.0, x.1.now)) result (pointer_at len bytes.now) }
     ensures len { IfOk result (λ x. x.0.len ≡ len) }
 {
     let (server, rest) = u8_at(bytes)?;
@@ -35,7 +35,7 @@ fn pointer_of(len: u32, bytes: &[u8]) -> Result<(Pointer, &[u8]), ListError>
 /// The slice of `len` bytes at the front of bytes, and the bytes behind it.
 #[tactic(auto, unfolding(wtf_overlay::specs::Reading::slice_at))]
 pub fn slice_of(len: u32, bytes: &[u8]) -> Result<(Slice, &[u8]), ListError>
-    ensures value { Gives (λ x. (pointers_of x.0, x.1.now)) result (slice_at len bytes.now) }
+    ensures value { Parses (λ x. (pointers_of x.0, x.1.now)) result (slice_at len bytes.now) }
     ensures len { IfOk result (λ x. len_of x.0 ≡ len) }
 {
     let (width, rest) = u8_at(bytes)?;
@@ -65,7 +65,7 @@ pub fn slice_of(len: u32, bytes: &[u8]) -> Result<(Slice, &[u8]), ListError>
 /// What an entry of `len` bytes holds.
 #[tactic(auto, unfolding(wtf_overlay::specs::Reading::part_at))]
 fn part_of(len: u32, bytes: &[u8]) -> Result<(Part, &[u8]), ListError>
-    ensures value { Gives (λ x. (part_row x.0, x.1.now)) result (part_at len bytes.now) }
+    ensures value { Parses (λ x. (part_row x.0, x.1.now)) result (part_at len bytes.now) }
     ensures len { IfOk result (λ x. HasLength len x.0) }
 {
     let (kind, rest) = u8_at(bytes)?;
@@ -82,7 +82,7 @@ fn part_of(len: u32, bytes: &[u8]) -> Result<(Part, &[u8]), ListError>
 /// The entry at the front of bytes, of a region that ends at `end`, and the bytes behind it.
 #[tactic(auto, unfolding(wtf_overlay::specs::Reading::entry_at))]
 pub fn entry_of(end: u32, bytes: &[u8]) -> Result<(Entry, &[u8]), ListError>
-    ensures value { Gives (λ x. (entry_row x.0, x.1.now)) result (entry_at end bytes.now) }
+    ensures value { Parses (λ x. (entry_row x.0, x.1.now)) result (entry_at end bytes.now) }
     ensures within { IfOk result (λ x. x.0.off + x.0.len ≤ end) }
 {
     let (off, rest) = u32_at(bytes)?;
@@ -102,7 +102,7 @@ pub fn entries_of(
     count: u32,
     bytes: &[u8],
 ) -> Result<(Vec<Entry>, &[u8]), ListError>
-    ensures value { Gives (λ x. (entry_rows x.0.items, x.1.now)) result
+    ensures value { Parses (λ x. (entry_rows x.0.items, x.1.now)) result
         (many_at (entry_at end) count bytes.now) }
     ensures within { IfOk result (λ x. Within end x.0.items) }
 {

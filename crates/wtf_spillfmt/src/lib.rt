@@ -12,7 +12,7 @@
 //! The parts have the same two ways: `put_u32`, `put_slice`, `put_entry`, `put_entries` append the text of a
 //! number, a slice, an entry, entries, by the definitions of `specs/Texts` of `wtf_overlay` (`Writes`); `u8_at`,
 //! `u32_at`, `u64_at`, `slice_of`, `entry_of`, `entries_of` read one at the front of bytes, with what is left
-//! (`Gives`). Images and changes are written with them.
+//! (`Parses`). Images and changes are written with them.
 #![tactic(auto)]
 
 mod decoding;

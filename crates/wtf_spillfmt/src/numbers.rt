@@ -3,13 +3,13 @@
 ghost use Rattle.std.specs.Prelude.{◌≡◌};
 ghost use Rattle.std.specs.Int.{w32, w64};
 ghost use Rattle.wtf_overlay.specs.Reading.{byte_at, number_at};
-ghost use Rattle.wtf_spillfmt.specs.Gives.{Gives};
+ghost use Rattle.wtf_spillfmt.specs.Parses.{Parses};
 
 use crate::ListError;
 
 /// The byte at the front of bytes, and the bytes behind it.
 pub fn u8_at(bytes: &[u8]) -> Result<(u8, &[u8]), ListError>
-    ensures { Gives (λ x. (x.0, x.1.now)) result (byte_at bytes.now) }
+    ensures { Parses (λ x. (x.0, x.1.now)) result (byte_at bytes.now) }
 {
     match bytes {
         [] => Err(ListError::NotAList),
@@ -20,7 +20,7 @@ pub fn u8_at(bytes: &[u8]) -> Result<(u8, &[u8]), ListError>
 /// The number in the four bytes at the front, and the bytes behind them.
 #[tactic(auto, unfolding(wtf_overlay::specs::Reading::number_at))]
 pub fn u32_at(bytes: &[u8]) -> Result<(u32, &[u8]), ListError>
-    ensures { Gives (λ x. (x.0, x.1.now)) result (number_at w32 bytes.now) }
+    ensures { Parses (λ x. (x.0, x.1.now)) result (number_at w32 bytes.now) }
 {
     if bytes.len() < 4 {
         return Err(ListError::NotAList);
@@ -33,7 +33,7 @@ pub fn u32_at(bytes: &[u8]) -> Result<(u32, &[u8]), ListError>
 /// The number in the eight bytes at the front, and the bytes behind them.
 #[tactic(auto, unfolding(wtf_overlay::specs::Reading::number_at))]
 pub fn u64_at(bytes: &[u8]) -> Result<(u64, &[u8]), ListError>
-    ensures { Gives (λ x. (x.0, x.1.now)) result (number_at w64 bytes.now) }
+    ensures { Parses (λ x. (x.0, x.1.now)) result (number_at w64 bytes.now) }
 {
     if bytes.len() < 8 {
         return Err(ListError::NotAList);

@@ -30,9 +30,19 @@ fn put_pointer(out: &mut Vec<u8>, pointer: Pointer) -> Result<(), OutOfMemory>
     ensures { OnOk result (Writes out.old.items out.new.items
         (pointer_text pointer) (IsPointer pointer.len pointer)) }
 {
-    out.push(pointer.server.0)?;
-    out.push(pointer.file)?;
-    out.extend_from_slice(&pointer.at.to_be_bytes())?;
+    let at = pointer.at.to_be_bytes();
+    out.extend_from_slice(&[
+        pointer.server.0,
+        pointer.file,
+        at[0],
+        at[1],
+        at[2],
+        at[3],
+        at[4],
+        at[5],
+        at[6],
+        at[7],
+    ])?;
     Ok(())
 }
 
@@ -75,8 +85,11 @@ pub fn put_entry(out: &mut Vec<u8>, entry: Entry) -> Result<(), OutOfMemory>
     ensures { OnOk result (Writes out.old.items out.new.items (entry_text (entry_row entry))
         (IsPart entry.len (part_row entry.part))) }
 {
-    out.extend_from_slice(&entry.off.to_be_bytes())?;
-    out.extend_from_slice(&entry.len.to_be_bytes())?;
+    let off = entry.off.to_be_bytes();
+    let len = entry.len.to_be_bytes();
+    out.extend_from_slice(&[
+        off[0], off[1], off[2], off[3], len[0], len[1], len[2], len[3],
+    ])?;
     put_part(out, &entry.part)?;
     Ok(())
 }

@@ -1,7 +1,7 @@
 use Rattle.std.proofs.Common.{◌≡◌, Some, sym, subst, ap, ◌∙◌}
 use Rattle.wtf_overlay.specs.Compact.{IsCompact}
 use Rattle.wtf_overlay.specs.Spilled.{only_compact}
-use Rattle.wtf_spillfmt.specs.Gives.{IsNoneOr}
+use Rattle.wtf_spillfmt.specs.Parses.{IsNoneOr}
 use Rattle.wtf_spillfmt.proofs.Lists.{compact_only, refused}
 use Rattle.wtf_spillfmt.proofs.decoding.list_of.Goals as goal
 

@@ -11,9 +11,9 @@ IsNoneOr read error.NotAList = read ≡ None
 IsNoneOr read error.Memory = ⊤
 
 -- what it answered, seen by view, is what reading gives
-abbrev pub Gives : {A B : Type 0} → (A → B) → Result A ListError → Option B → Type 0
-Gives view (Ok x) read = read ≡ Some (view x)
-Gives view (Err why) read = IsNoneOr read why
+abbrev pub Parses : {A B : Type 0} → (A → B) → Result A ListError → Option B → Type 0
+Parses view (Ok x) read = read ≡ Some (view x)
+Parses view (Err why) read = IsNoneOr read why
 
 -- entries that are not compact are no list
 abbrev pub no_list_by : NotCompact → ListError
