@@ -5,7 +5,7 @@ use Rattle.std.specs.Ordering.{nat_cmp}
 use Rattle.std.specs.Cmp.Lexicographic.{slice_cmp}
 use Rattle.wtf_model.specs.declared.answer.Answer.TheVariants as answer
 use Rattle.wtf_model.specs.declared.item.Item.{Item}
-use Rattle.wtf_model.specs.declared.item.Item.TheVariants.{NodeOf, BodyOf}
+use Rattle.wtf_model.specs.declared.item.Item.TheVariants.{NodeOf, BodyOf, LinksOf}
 use Rattle.wtf_model.specs.declared.op.Op.TheVariants as op
 use Rattle.wtf_model.specs.declared.event.Verb.TheVariants as verb
 use Rattle.wtf_model.specs.declared.event.Event.TheVariants as event
@@ -89,7 +89,7 @@ lawful m c t i there live less one two =
 
 -- ---- runs of calls
 
-pub of_one : (cap : ℕ) (t : Tree) (p : List ℕ) → reads_of cap t (op.Unlink p ∷ []) ≡ NodeOf p ∷ []
+pub of_one : (cap : ℕ) (t : Tree) (p : List ℕ) → reads_of cap t (op.Unlink p ∷ []) ≡ NodeOf p ∷ LinksOf p ∷ []
 unfolding reads_from
 of_one cap t p = refl
 

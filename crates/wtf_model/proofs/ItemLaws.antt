@@ -7,12 +7,11 @@ use Rattle.std.proofs.lemmas.Slice.Eq.{bytes_eq-Decides}
 use Rattle.std.specs.FinMap.{FinMap, get, find, entries, get-entries, get-from_entries, nat_cmp-IsAntisymmetric, slice_cmp-IsAntisymmetric}
 use Rattle.std.proofs.lemmas.Map.Views.{tells_apart}
 use Rattle.std.specs.List.{list_any}
-use Rattle.std.specs.Str.{bytes_eq}
 use Rattle.std.specs.Ordering.{nat_cmp, eq_by_cmp}
 use Rattle.std.specs.Cmp.Lexicographic.{slice_cmp}
 use Rattle.std.specs.Cmp.{nat_cmp_total}
 use Rattle.wtf_model.specs.declared.item.Item.{Item}
-use Rattle.wtf_model.specs.declared.item.Item.TheVariants.{NodeOf, NamesOf, BodyOf}
+use Rattle.wtf_model.specs.declared.item.Item.TheVariants.{NodeOf, NamesOf, BodyOf, LinksOf}
 use Rattle.wtf_model.specs.declared.answer.Answer.{Answer}
 use Rattle.wtf_model.specs.declared.answer.Answer.TheVariants as answer
 use Rattle.wtf_model.specs.declared.answer.Word.{Word}
@@ -21,7 +20,7 @@ use Rattle.wtf_model.specs.Tree.{PathSet, has_path, path_list}
 use Rattle.wtf_model.specs.Session.{Session}
 use Rattle.wtf_model.specs.Done.{Done}
 use Rattle.wtf_model.specs.Call.{call}
-use Rattle.wtf_model.specs.Items.{same_item, is_among, meets, source_reads, reads, changes, unless_refused, writes, reads_from, writes_from}
+use Rattle.wtf_model.specs.Items.{same_item, is_among, meets, source_reads, reads, links_of, changes, unless_refused, writes, reads_from, writes_from}
 use Rattle.wtf_model.specs.Transaction.{session_from}
 use Rattle.wtf_model.specs.Steps.{with_each}
 use Rattle.wtf_model.proofs.PathLaws.{has-listed}
@@ -32,11 +31,13 @@ pub same_item-itself : (i : Item) → same_item i i ≡ true
 same_item-itself (NodeOf p) = (bytes_eq-Decides p p).1 refl
 same_item-itself (NamesOf p) = (bytes_eq-Decides p p).1 refl
 same_item-itself (BodyOf p) = (bytes_eq-Decides p p).1 refl
+same_item-itself (LinksOf p) = (bytes_eq-Decides p p).1 refl
 
 pub same_item-is : (i j : Item) → same_item i j ≡ true → i ≡ j
 same_item-is (NodeOf p) (NodeOf q) e = ap (λ x. NodeOf x) ((bytes_eq-Decides p q).0 e)
 same_item-is (NamesOf p) (NamesOf q) e = ap (λ x. NamesOf x) ((bytes_eq-Decides p q).0 e)
 same_item-is (BodyOf p) (BodyOf q) e = ap (λ x. BodyOf x) ((bytes_eq-Decides p q).0 e)
+same_item-is (LinksOf p) (LinksOf q) e = ap (λ x. LinksOf x) ((bytes_eq-Decides p q).0 e)
 same_item-is i j e = absurd (cc)
 
 -- ---- items of lists
@@ -80,17 +81,23 @@ meets-none (y ∷ ys) = meets-none ys
 pub meets-last : (xs more ys : List Item) (i : Item) → is_among more i ≡ true → is_among ys i ≡ true → meets (xs ++ more) ys ≡ true
 meets-last xs more ys i here there = meets-by (xs ++ more) ys i (is_among-right xs more i here) there
 
--- the bytes of a file that are changed by each of its paths are changed by one
-among_bodies : (ps : List (List ℕ)) (q : List ℕ) → list_any (eq_by_cmp (slice_cmp nat_cmp) q) ps ≡ true → is_among (map (λ x. BodyOf x) ps) (BodyOf q) ≡ true
-among_bodies [] q e = cc
-among_bodies (p ∷ ps) q e =
-    elim (eq_by_cmp (slice_cmp nat_cmp) q p) as (λ b. eq_by_cmp (slice_cmp nat_cmp) q p ≡ b → (b || list_any (eq_by_cmp (slice_cmp nat_cmp) q) ps) ≡ true → (bytes_eq q p || is_among (map (λ x. BodyOf x) ps) (BodyOf q)) ≡ true) [
-      | true ↦ λ tied rest. ap (λ b. b || is_among (map (λ x. BodyOf x) ps) (BodyOf q)) ((bytes_eq-Decides q p).1 (tells_apart (slice_cmp-IsAntisymmetric nat_cmp-IsAntisymmetric) q p tied))
-      | false ↦ λ tied rest. or_later (bytes_eq q p) (is_among (map (λ x. BodyOf x) ps) (BodyOf q)) (among_bodies ps q rest)
+-- what is changed of a file by each of its paths is changed by one
+among_each : (f : List ℕ → Item) (ps : List (List ℕ)) (q : List ℕ) → list_any (eq_by_cmp (slice_cmp nat_cmp) q) ps ≡ true → is_among (map f ps) (f q) ≡ true
+among_each f [] q e = cc
+among_each f (p ∷ ps) q e =
+    elim (eq_by_cmp (slice_cmp nat_cmp) q p) as (λ b. eq_by_cmp (slice_cmp nat_cmp) q p ≡ b → (b || list_any (eq_by_cmp (slice_cmp nat_cmp) q) ps) ≡ true
+    → (same_item (f q) (f p) || is_among (map f ps) (f q)) ≡ true) [
+      | true ↦ λ tied rest.
+          ap (λ b. b || is_among (map f ps) (f q))
+          (subst (λ x. same_item (f q) (f x) ≡ true) (tells_apart (slice_cmp-IsAntisymmetric nat_cmp-IsAntisymmetric) q p tied) (same_item-itself (f q)))
+      | false ↦ λ tied rest. or_later (same_item (f q) (f p)) (is_among (map f ps) (f q)) (among_each f ps q rest)
     ] refl e
 
 pub is_among-bodies : (paths : PathSet) (q : List ℕ) → has_path paths q ≡ true → is_among (map (λ x. BodyOf x) (path_list paths)) (BodyOf q) ≡ true
-is_among-bodies paths q has = among_bodies (path_list paths) q (sym (has-listed paths q) ∙ has)
+is_among-bodies paths q has = among_each (λ x. BodyOf x) (path_list paths) q (sym (has-listed paths q) ∙ has)
+
+pub is_among-links : (paths : PathSet) (q : List ℕ) → has_path paths q ≡ true → is_among (links_of paths) (LinksOf q) ≡ true
+is_among-links paths q has = among_each (λ x. LinksOf x) (path_list paths) q (sym (has-listed paths q) ∙ has)
 
 -- the bytes of a file are read by what reads the file
 pub meets-body : (items : List Item) (p : List ℕ) → is_among items (BodyOf p) ≡ true → meets items (source_reads p) ≡ true

@@ -1,5 +1,6 @@
 pub mod ExampleTrees
 pub mod Laws
+pub mod Sizes
 pub mod PathLaws
 pub mod CallLaws
 pub mod ByteLaws
@@ -22,3 +23,4 @@ pub mod JobLaws
 pub mod ScanLaws
 pub mod ItemExamples
 pub mod SharedExamples
+pub mod Growth

@@ -92,12 +92,12 @@ pub may_abort_commit : (m : Machine) (c : ℕ) (t : Transaction) (i : ℕ) (a r 
     → Deviates (answers_of (cap_of m) m.now t.ops) t.shown i a → IsAborted i a r → May m (event.Client c verb.Commit) r
 may_abort_commit m c t i a r there d aborted = asked m c (Some t) there verb.Commit r refl (commit_aborted m t i a r d aborted)
 
-file_is : (a b : ℕ) → Some (answer.File a) ≡ Some (answer.File b) → a ≡ b
+file_is : (a b : ℕ) → Some (answer.File a 1) ≡ Some (answer.File b 1) → a ≡ b
 file_is a b e = cc
 
-pub grew : (answers shown : List Answer) → answers ≡ answer.File 3 ∷ [] → shown ≡ answer.File 0 ∷ [] → Deviates answers shown 1 (answer.File 3)
+pub grew : (answers shown : List Answer) → answers ≡ answer.File 3 1 ∷ [] → shown ≡ answer.File 0 1 ∷ [] → Deviates answers shown 1 (answer.File 3 1)
 grew answers shown is was =
-    subst (λ x. Deviates x shown 1 (answer.File 3)) (sym is) (subst (λ x. Deviates (answer.File 3 ∷ []) x 1 (answer.File 3)) (sym was) (record {
+    subst (λ x. Deviates x shown 1 (answer.File 3 1)) (sym is) (subst (λ x. Deviates (answer.File 3 1 ∷ []) x 1 (answer.File 3 1)) (sym was) (record {
       counted = omega arith;
       agree = refl;
       answer_is = refl;
@@ -139,11 +139,11 @@ pub dump_missing : (m : Machine) (p : List ℕ) → get m.now p ≡ None → dum
 dump_missing m p none = rw none refl
 
 -- of two calls that answer otherwise the first one tells
-pub first_only : (i : ℕ) (a : Answer) → Deviates (answer.Okay ∷ answer.File 3 ∷ []) (answer.File 1 ∷ answer.File 0 ∷ []) i a → i ≡ 1
+pub first_only : (i : ℕ) (a : Answer) → Deviates (answer.Okay ∷ answer.File 3 1 ∷ []) (answer.File 1 1 ∷ answer.File 0 1 ∷ []) i a → i ≡ 1
 first_only zero a d = absurd (omega (arith, d.counted))
 first_only (suc zero) a d = refl
 first_only (suc (suc k)) a d =
     let less : suc (suc k) - 1 ≡ suc k = omega arith in
-    let same : take (suc k) (answer.Okay ∷ answer.File 3 ∷ []) ≡ take (suc k) (answer.File 1 ∷ answer.File 0 ∷ []) =
-    subst (λ n. take n (answer.Okay ∷ answer.File 3 ∷ []) ≡ take n (answer.File 1 ∷ answer.File 0 ∷ [])) less d.agree in
+    let same : take (suc k) (answer.Okay ∷ answer.File 3 1 ∷ []) ≡ take (suc k) (answer.File 1 1 ∷ answer.File 0 1 ∷ []) =
+    subst (λ n. take n (answer.Okay ∷ answer.File 3 1 ∷ []) ≡ take n (answer.File 1 1 ∷ answer.File 0 1 ∷ [])) less d.agree in
     absurd (cc)

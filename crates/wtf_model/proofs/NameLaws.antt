@@ -10,8 +10,8 @@ use Rattle.wtf_model.specs.declared.answer.Answer.TheVariants as answer
 use Rattle.wtf_model.specs.declared.op.Op.TheVariants as op
 use Rattle.wtf_model.specs.Tree.{Tree, TreeNode, Dir, root, ◌>>=◌, target, source, is_directory, are_none, is_empty, paths_in, names_in}
 use Rattle.wtf_model.specs.Session.{Session}
-use Rattle.wtf_model.specs.Done.{done, is_on, is_closed, put_node, add_file, take_out, drop_path, move_file}
-use Rattle.wtf_model.specs.NameCalls.{mkdir, create, is_not_root, rmdir, unlink, rename, list, shown_node}
+use Rattle.wtf_model.specs.Done.{done, is_on, is_closed, put_node, add_file, take_out, drop_path, move_file, add_path}
+use Rattle.wtf_model.specs.NameCalls.{mkdir, create, is_not_root, rmdir, unlink, rename, link, list, shown_node}
 use Rattle.wtf_model.specs.Call.{call, or_refused}
 use Rattle.wtf_model.specs.Examples.{unchanged}
 use Rattle.wtf_model.proofs.CallLaws.{call-create}
@@ -53,6 +53,13 @@ rename-by cap S p q r c d e f g =
     ap (λ z. or_refused S (z >>= (λ bytes. is_closed S p >>= (λ _. target S.tree q >>= (λ _. done (move_file S p q bytes) answer.Okay))))) e
     ∙ ap (λ z. or_refused S (r >>= (λ bytes. z >>= (λ _. target S.tree q >>= (λ _. done (move_file S p q bytes) answer.Okay))))) f
     ∙ ap (λ z. or_refused S (r >>= (λ bytes. c >>= (λ _. z >>= (λ _. done (move_file S p q bytes) answer.Okay))))) g
+
+pub link-by : (cap : ℕ) (S : Session) (p q : List ℕ) (r : Result (List ℕ) Word) (d : Result (Unit {0}) Word) → source S.tree p ≡ r → target S.tree q ≡ d
+    → call cap S (op.Link p q) ≡ or_refused S (r >>= (λ bytes. d >>= (λ _. done (add_path S p q bytes) answer.Okay)))
+unfolding link
+link-by cap S p q r d e f =
+    ap (λ z. or_refused S (z >>= (λ bytes. target S.tree q >>= (λ _. done (add_path S p q bytes) answer.Okay)))) e
+    ∙ ap (λ z. or_refused S (r >>= (λ bytes. z >>= (λ _. done (add_path S p q bytes) answer.Okay)))) f
 
 -- each way out of a call
 
@@ -162,6 +169,18 @@ module _ (cap : ℕ) (s : Session) (p q : List ℕ) where
       rename-done left e is =
           rename-off ∙ ap (λ r. or_refused s (r >>= (λ _. done (move_file s p q bytes) answer.Okay))) e
           ∙ ap (λ left. record { session = left; answer = answer.Okay }) (sym is)
+
+  pub link-refused : (w : Word) → source s.tree p ≡ Err w → call cap s (op.Link p q) ≡ unchanged s (answer.Refused w)
+  link-refused w e = link-by cap s p q (Err w) (target s.tree q) e refl
+
+  pub link-no_target : (bytes : List ℕ) (w : Word) → source s.tree p ≡ Ok bytes → target s.tree q ≡ Err w → call cap s (op.Link p q) ≡ unchanged s (answer.Refused w)
+  link-no_target bytes w file e = link-by cap s p q (Ok bytes) (Err w) file e
+
+  pub link-done : (bytes : List ℕ) (left : Session) → source s.tree p ≡ Ok bytes → target s.tree q ≡ Ok tt → left ≡ add_path s p q bytes
+      → call cap s (op.Link p q) ≡ record { session = left; answer = answer.Okay }
+  link-done bytes left file e is =
+      link-by cap s p q (Ok bytes) (Ok tt) file e
+      ∙ ap (λ left. record { session = left; answer = answer.Okay }) (sym is)
 
 -- what a test of a directory says of the paths in it
 

@@ -1,15 +1,19 @@
 -- Laws of sets of paths, and of a tree in which a file has other paths or other bytes.
-use Rattle.std.proofs.Common.{◌≡◌, ◌≢◌, ◌⊎◌, ℕ, Bool, true, false, cond, not, ◌&&◌, ◌||◌, List, [], ◌∷◌, map, length, Option, Some, None, is_some, refl, sym, ap, subst, ◌∙◌, inl, inr, arith}
+use Rattle.std.proofs.Common.{◌≡◌, ◌≢◌, ◌⊎◌, ℕ, ◌+◌, ◌-◌, ◌<◌, ◌≤◌, Bool, true, false, cond, not, ◌&&◌, ◌||◌, List, [], ◌∷◌, map, length, Option, Some, None}
+use Rattle.std.proofs.Common.{is_some, refl, sym, ap, subst, ◌∙◌, inl, inr, arith}
 use Rattle.std.proofs.lemmas.Bool.{true≢false}
 use Rattle.std.proofs.lemmas.Map.Views.{tells_apart}
 use Rattle.std.specs.List.{list_any}
-use Rattle.std.specs.FinMap.{get, insert, remove, entries, get-insert, get-remove, get-empty, contains_key-keys, entries-insert, len-entries, len-empty, same_map, nat_cmp-IsAntisymmetric, slice_cmp-IsAntisymmetric}
+use Rattle.std.specs.FinMap.{get, insert, remove, entries, get-insert, get-remove, get-empty, contains_key-keys, entries-insert, len-entries, len-empty}
+use Rattle.std.specs.FinMap.{len-insert, len-remove, same_map, nat_cmp-IsAntisymmetric, slice_cmp-IsAntisymmetric}
 use Rattle.std.specs.FinMap.Entries.{put}
 use Rattle.std.specs.Cmp.{eq_by_cmp_equiv}
 use Rattle.std.specs.Cmp.Lexicographic.{slice_cmp, nat_list_cmp_total}
 use Rattle.std.specs.Ordering.{nat_cmp, eq_by_cmp}
-use Rattle.wtf_model.specs.Tree.{PathSet, no_paths, only_path, has_path, with_path, without_path, path_list, TreeNode, File, Tree, paths_of, paths_at}
+use Rattle.wtf_model.specs.Tree.{PathSet, no_paths, only_path, has_path, with_path, without_path, path_list, path_count, TreeNode, File, Tree, paths_of}
+use Rattle.wtf_model.specs.Tree.{paths_at}
 use Rattle.wtf_model.specs.Done.{put_all, take_all, refiled}
+use Rattle.wtf_model.proofs.Sizes.{len-some}
 
 -- ---- paths that are the same
 
@@ -65,6 +69,22 @@ has-with_other s p q other = has_with s p q ∙ ap (λ b. b || has_path s q) (no
 pub has-without_other : (s : PathSet) (p q : List ℕ) → q ≢ p → has_path (without_path s p) q ≡ has_path s q
 has-without_other s p q other = has_without s p q ∙ ap (λ b. not b && has_path s q) (not_tied q p other)
 
+-- one that was not there is not there without another
+pub never-without : (s : PathSet) (p q : List ℕ) → has_path s q ≡ false → has_path (without_path s p) q ≡ false
+never-without s p q never = has_without s p q ∙ ap (λ b. not (ties q p) && b) never ∙ and_false (not (ties q p))
+  where
+    and_false : (b : Bool) → (b && false) ≡ false
+    and_false true = refl
+    and_false false = refl
+
+-- and one that was there stays beside one more
+pub has-still : (s : PathSet) (p q : List ℕ) → has_path s q ≡ true → has_path (with_path s p) q ≡ true
+has-still s p q has = has_with s p q ∙ ap (λ b. ties q p || b) has ∙ or_true (ties q p)
+  where
+    or_true : (b : Bool) → (b || true) ≡ true
+    or_true true = refl
+    or_true false = refl
+
 -- what a test of such a set says of a path
 pub in-with : (s : PathSet) (p q : List ℕ) → has_path (with_path s p) q ≡ true → (q ≡ p) ⊎ (has_path s q ≡ true)
 in-with s p q e =
@@ -116,6 +136,37 @@ list-only p =
 
 pub has-listed : (s : PathSet) (q : List ℕ) → has_path s q ≡ list_any (eq_by_cmp (slice_cmp nat_cmp) q) (path_list s)
 has-listed s q = contains_key-keys s q
+
+-- how many paths a set has: one more where a new path is added, and one less where one is taken out
+pub count-with : (s : PathSet) (p : List ℕ) → has_path s p ≡ false → path_count (with_path s p) ≡ path_count s + 1
+count-with s p new = len-insert nat_list_cmp_total s p tt ∙ ap (λ b. cond b (path_count s) (path_count s + 1)) new
+
+pub count-without : (s : PathSet) (p : List ℕ) → has_path s p ≡ true → path_count (without_path s p) ≡ path_count s - 1
+count-without s p has = len-remove nat_list_cmp_total s p ∙ ap (λ b. cond b (path_count s - 1) (path_count s)) has
+
+pub count-only : (p : List ℕ) → path_count (only_path p) ≡ 1
+count-only p = count-with no_paths p (has-none p) ∙ ap (λ n. n + 1) (len-empty (slice_cmp nat_cmp) (Unit {0}))
+
+-- a set that has a path is not empty
+pub count-some : (s : PathSet) (p : List ℕ) → has_path s p ≡ true → 1 ≤ path_count s
+count-some s p has = len-some s p has
+
+-- as many where one becomes another
+pub count-moved : (s : PathSet) (p q : List ℕ) → has_path s p ≡ true → has_path s q ≡ false → path_count (with_path (without_path s p) q) ≡ path_count s
+count-moved s p q has new =
+    let some : 1 ≤ path_count s = count-some s p has in
+    count-with (without_path s p) q (never-without s p q new) ∙ ap (λ n. n + 1) (count-without s p has) ∙ omega arith
+
+-- a set of one path alone has no two
+pub count-alone : (s : PathSet) (p q : List ℕ) → path_count s < 2 → has_path s p ≡ true → has_path s q ≡ true → q ≡ p
+count-alone s p q few has has_too =
+    elim (ties q p) as (λ b. ties q p ≡ b → q ≡ p) [
+      | true ↦ λ e. tied_same q p e
+      | false ↦ λ e.
+          let left : 1 ≤ path_count (without_path s p) = count-some (without_path s p) q (has-without_other s p q (tied_apart q p e) ∙ has_too) in
+          let less : path_count (without_path s p) ≡ path_count s - 1 = count-without s p has in
+          absurd (omega arith)
+    ] refl
 
 -- ---- a file with other paths or other bytes
 

@@ -130,8 +130,18 @@ module _ (t : Tree) (p : List ℕ) (paths : PathSet) (bytes : List ℕ) (tree : 
     path = λ q here never. absurd (true≢false (sym (in-without paths x q here).1 ∙ never));
   }
 
+  only_new : (q y : List ℕ) → has_path (with_path paths q) y ≡ true → has_path paths y ≡ false → y ≡ q
+  only_new q y here never = ⊎_elim (λ same. same) (λ was. absurd (true≢false (sym was ∙ never))) (in-with paths q y here)
+
   new_one : (x q y : List ℕ) → has_path (with_path (without_path paths x) q) y ≡ true → has_path paths y ≡ false → y ≡ q
   new_one x q y here never = ⊎_elim (λ same. same) (λ left. absurd (true≢false (sym (in-without paths x y left).1 ∙ never))) (in-with (without_path paths x) q y here)
+
+  pub may-add : (q : List ℕ) → IsFree t q → IsPath q → MayRefile t paths (with_path paths q)
+  may-add q free path = record {
+    whole = whole_at t p paths bytes tree file;
+    free = λ y here never. subst (λ z. IsFree t z) (sym (only_new q y here never)) free;
+    path = λ y here never. subst (λ z. IsPath z) (sym (only_new q y here never)) path;
+  }
 
   pub may-move : (x q : List ℕ) → IsFree t q → IsPath q → MayRefile t paths (with_path (without_path paths x) q)
   may-move x q free path = record {

@@ -18,17 +18,17 @@ use Rattle.wtf_model.specs.declared.op.Seek.TheVariants as to
 use Rattle.wtf_model.specs.Form.{IsData, IsFormOp}
 use Rattle.wtf_model.specs.Tree.{PathSet, only_path, has_path, with_path, without_path, Tree, TreeNode, Dir, File, root, IsTree, ◌>>=◌, bytes_of, paths_of, target, source, sources, is_directory, is_empty}
 use Rattle.wtf_model.specs.Session.{Session, Handle, fresh}
-use Rattle.wtf_model.specs.Done.{Done, open_handle, handle_at, is_unused, slice_at, is_on, is_closed, fits, in_range, refiled, moved, put_node, set_bytes, add_file, take_out, drop_path, move_file, put_slice}
-use Rattle.wtf_model.specs.NameCalls.{mkdir, create, is_not_root, rmdir, unlink, rename, list, shown_node, stat}
+use Rattle.wtf_model.specs.Done.{Done, open_handle, handle_at, is_unused, slice_at, is_on, is_closed, fits, in_range, refiled, moved, put_node, set_bytes, add_file, take_out, drop_path, move_file, add_path, put_slice}
+use Rattle.wtf_model.specs.NameCalls.{mkdir, create, is_not_root, rmdir, unlink, rename, link, list, shown_node, stat}
 use Rattle.wtf_model.specs.HandleCalls.{open_file, close, seek, tell}
 use Rattle.wtf_model.specs.ByteCalls.{read, write, append, truncate, punch}
 use Rattle.wtf_model.specs.SliceCalls.{yank, peek, cut, paste, glue, concat, copy}
 use Rattle.wtf_model.specs.Call.{call, or_refused}
 use Rattle.wtf_model.specs.Transaction.{session_from, session_after}
 use Rattle.wtf_model.proofs.Laws.{get-node_same, get-node_other, get-handle_same, get-handle_other}
-use Rattle.wtf_model.proofs.PathLaws.{get-refiled_in, get-refiled_out, has-with_other, has-without_other, has-added}
+use Rattle.wtf_model.proofs.PathLaws.{get-refiled_in, get-refiled_out, has-with_other, has-without_other, has-added, has-still}
 use Rattle.wtf_model.proofs.TreeLaws.{IsFree, IsFree-target, IsTree-new, IsTree-taken, get-taken_other, nothing_in, same_or_other}
-use Rattle.wtf_model.proofs.RefileLaws.{MayRefile, IsTree-refiled, may-bytes, may-drop, may-move}
+use Rattle.wtf_model.proofs.RefileLaws.{MayRefile, IsTree-refiled, may-bytes, may-drop, may-add, may-move}
 
 -- a test that refuses where it holds
 abbrev other_way : Bool → Word → Result (Unit {0}) Word
@@ -75,12 +75,12 @@ closed_by false e = refl
 off_path : (s : Session) (p : List ℕ) (f : ℕ) (h : Handle) → is_closed s p ≡ Ok tt → get s.handles f ≡ Some h → h.path ≢ p
 off_path s p f h closed there = found_in (entries s.handles) p f h (sym (get-entries s.handles f) ∙ there) (closed_by _ closed)
 
-file_from : (t : Tree) (p bytes : List ℕ) (o : Option TreeNode) → get t p ≡ o → bytes_of o ≡ Ok bytes → IsFile t p
+pub file_from : (t : Tree) (p bytes : List ℕ) (o : Option TreeNode) → get t p ≡ o → bytes_of o ≡ Ok bytes → IsFile t p
 file_from t p bytes (Some (File ps b)) is e = record { paths = ps; bytes = b; there = is }
 file_from t p bytes (Some Dir) is e = absurd (cc)
 file_from t p bytes None is e = absurd (cc)
 
-handle_from : (o : Option Handle) (h : Handle) → open_handle o ≡ Ok h → o ≡ Some h
+pub handle_from : (o : Option Handle) (h : Handle) → open_handle o ≡ Ok h → o ≡ Some h
 handle_from (Some k) h e = let same : k ≡ h = cc in ap (λ x. Some x) same
 handle_from None h e = absurd (cc)
 
@@ -179,6 +179,12 @@ put_over : (s : Session) (p bytes : List ℕ) → IsFile s.tree p → IsSession 
 put_over s p bytes file own = as_told s p file (λ paths. paths) bytes
     (refiles s file.paths file.paths bytes (may-bytes s.tree p file.paths file.bytes own.tree_is file.there) (λ f h there has. has) own)
 
+-- one more path comes
+add_keeps : (s : Session) (p q bytes : List ℕ) → IsFile s.tree p → IsFree s.tree q → IsPath q → IsSession s → IsSession (add_path s p q bytes)
+add_keeps s p q bytes file free path own = as_told s p file (λ paths. with_path paths q) bytes
+    (refiles s file.paths (with_path file.paths q) bytes (may-add s.tree p file.paths file.bytes own.tree_is file.there q free path)
+    (λ f h there has. has-still file.paths q h.path has) own)
+
 -- a path that no handle is on goes
 drop_keeps : (s : Session) (p bytes : List ℕ) → IsFile s.tree p → is_closed s p ≡ Ok tt → IsSession s → IsSession (drop_path s p bytes)
 drop_keeps s p bytes file closed own = as_told s p file (λ paths. without_path paths p) bytes
@@ -246,7 +252,7 @@ rename_keeps s p q path own =
     move_keeps s p q bytes (file_from s.tree p bytes (get s.tree p) refl e) closed (IsFree-target s.tree q free) path own)))
 
 pub IsSession-call : (cap : ℕ) (s : Session) (o : Op (List ℕ)) → IsFormOp IsData o → IsSession s → IsSession (call cap s o).session
-unfolding mkdir create rmdir unlink list stat open_file close tell read truncate punch yank peek cut paste glue concat copy
+unfolding mkdir create rmdir unlink link list stat open_file close tell read truncate punch yank peek cut paste glue concat copy
 IsSession-call cap s (op.Mkdir p) form own = kept_by s (target s.tree p) _ own (λ u e. put_dir s p form (IsFree-target s.tree p e) own)
 IsSession-call cap s (op.Rmdir p) form own =
     kept_by s (is_not_root p) _ own (λ _ inner. kept_by s (is_directory (get s.tree p)) _ own (λ _ dir. kept_by s (is_empty s.tree p) _ own (λ _ none.
@@ -258,6 +264,9 @@ IsSession-call cap s (op.Unlink p) form own =
     kept_by s (source s.tree p) _ own (λ bytes e. kept_by s (is_closed s p) _ own (λ _ closed.
     drop_keeps s p bytes (file_from s.tree p bytes (get s.tree p) refl e) closed own))
 IsSession-call cap s (op.Rename p q) form own = rename_keeps s p q form.1 own
+IsSession-call cap s (op.Link p q) form own =
+    kept_by s (source s.tree p) _ own (λ bytes e. kept_by s (target s.tree q) _ own (λ u free.
+    add_keeps s p q bytes (file_from s.tree p bytes (get s.tree p) refl e) (IsFree-target s.tree q free) form.1 own))
 IsSession-call cap s (op.List p) form own = kept_by s (is_directory (get s.tree p)) _ own (λ _ _. own)
 IsSession-call cap s (op.Stat p) form own = kept_by s (shown_node (get s.tree p)) _ own (λ _ _. own)
 IsSession-call cap s (op.Open f p) form own =

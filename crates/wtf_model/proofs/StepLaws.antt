@@ -26,7 +26,7 @@ use Rattle.wtf_model.specs.declared.event.Event.TheVariants as event
 use Rattle.wtf_model.specs.Tree.{Tree, TreeNode, Dir, File, ◌>>=◌, is_parent, is_free, bytes_of, target_in, target, source, sources, is_directory, are_none, paths_in, is_empty}
 use Rattle.wtf_model.specs.Session.{Session, Handle}
 use Rattle.wtf_model.specs.Done.{Done, done, open_handle, handle_at, is_unused, known_slice, slice_at, bytes_of_handle, is_closed, fits, in_range}
-use Rattle.wtf_model.specs.NameCalls.{mkdir, create, is_not_root, rmdir, unlink, rename, list, shown_node, stat}
+use Rattle.wtf_model.specs.NameCalls.{mkdir, create, is_not_root, rmdir, unlink, rename, link, list, shown_node, stat}
 use Rattle.wtf_model.specs.HandleCalls.{open_file, close, seek, tell}
 use Rattle.wtf_model.specs.ByteCalls.{read, write, append, truncate, punch}
 use Rattle.wtf_model.specs.SliceCalls.{yank, peek, cut, paste, glue, concat, copy}
@@ -206,7 +206,7 @@ seek_logs cap s f (to.Back n) = at_handle s f _ (λ h. at_range h.off n _ (λ _.
 seek_logs cap s f to.End = at_handle s f _ (λ h. tt)
 
 row_logs : (cap : ℕ) (s : Session) (o : Op (List ℕ)) → Logs (row_of cap s o)
-unfolding mkdir create rmdir unlink rename list stat open_file close tell read truncate punch yank peek cut paste glue concat copy
+unfolding mkdir create rmdir unlink rename link list stat open_file close tell read truncate punch yank peek cut paste glue concat copy
 row_logs cap s (op.Mkdir p) = at_target s p _ (λ _. tt)
 row_logs cap s (op.Rmdir p) =
     logs (is_not_root p) _ (own_unless _ Root refl) (λ _. logs (is_directory (get s.tree p)) _ (own_directory (get s.tree p)) (λ _.
@@ -214,6 +214,7 @@ row_logs cap s (op.Rmdir p) =
 row_logs cap s (op.Create p) = at_target s p _ (λ _. tt)
 row_logs cap s (op.Unlink p) = at_source s p _ (λ _. logs (is_closed s p) _ (own_unless _ Busy refl) (λ _. tt))
 row_logs cap s (op.Rename p q) = at_source s p _ (λ _. logs (is_closed s p) _ (own_unless _ Busy refl) (λ _. at_target s q _ (λ _. tt)))
+row_logs cap s (op.Link p q) = at_source s p _ (λ _. at_target s q _ (λ _. tt))
 row_logs cap s (op.List p) = logs (is_directory (get s.tree p)) _ (own_directory (get s.tree p)) (λ _. tt)
 row_logs cap s (op.Stat p) = stat_logs s (get s.tree p)
 row_logs cap s (op.Open f p) = logs (is_unused (get s.handles f)) _ (own_unused (get s.handles f)) (λ _. at_source s p _ (λ _. tt))

@@ -174,8 +174,7 @@ IsTree-taken t p tree inner folder none = record {
       let (n, is) = some_of (get (remove t p) q) here in
       let was : IsSome (get t q) = there_is (get t q) n (at_taken t p q n is).0 in
       get-taken_other t p dir (λ same. none q was (up ∙ ap Some same)) ∙ tree.parents q dir was up;
-  shared = λ q paths bytes file.
-      still_shared t (remove t p) q paths bytes
+  shared = λ q paths bytes file. still_shared t (remove t p) q paths bytes
       (λ x was. get-taken_other t p x (not_dir t p x (File paths bytes) folder was (file_is_no_dir paths bytes)) ∙ was)
       (tree.shared q paths bytes (at_taken t p q (File paths bytes) file).0);
 }

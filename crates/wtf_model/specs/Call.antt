@@ -6,7 +6,7 @@ use Rattle.wtf_model.specs.declared.answer.Answer.TheVariants.{Refused}
 use Rattle.wtf_model.specs.declared.op.Op.{Op}
 use Rattle.wtf_model.specs.declared.op.Op.TheVariants as op
 use Rattle.wtf_model.specs.Session.{Session}
-use Rattle.wtf_model.specs.NameCalls.{mkdir, create, rmdir, unlink, rename, list, stat}
+use Rattle.wtf_model.specs.NameCalls.{mkdir, create, rmdir, unlink, rename, link, list, stat}
 use Rattle.wtf_model.specs.HandleCalls.{open_file, close, seek, tell}
 use Rattle.wtf_model.specs.ByteCalls.{read, write, append, truncate, punch}
 use Rattle.wtf_model.specs.SliceCalls.{yank, peek, cut, paste, glue, concat, copy}
@@ -19,6 +19,7 @@ row_of cap s (op.Rmdir p) = rmdir s p
 row_of cap s (op.Create p) = create s p
 row_of cap s (op.Unlink p) = unlink s p
 row_of cap s (op.Rename p q) = rename s p q
+row_of cap s (op.Link p q) = link s p q
 row_of cap s (op.List p) = list s p
 row_of cap s (op.Stat p) = stat s p
 row_of cap s (op.Open f p) = open_file s f p

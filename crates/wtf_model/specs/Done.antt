@@ -112,6 +112,10 @@ drop_path s p bytes = refile s p (without_path (paths_at s.tree p) p) bytes
 abbrev pub move_file : Session → List ℕ → List ℕ → List ℕ → Session
 move_file s p q bytes = refile s p (with_path (without_path (paths_at s.tree p) p) q) bytes
 
+-- the file at p, which has these bytes, gets one path more
+abbrev pub add_path : Session → List ℕ → List ℕ → List ℕ → Session
+add_path s p q bytes = refile s p (with_path (paths_at s.tree p) q) bytes
+
 -- a slice with these bytes
 abbrev pub put_slice : Session → ℕ → List ℕ → Session
 put_slice s label bytes = record s { slices = insert s.slices label bytes }

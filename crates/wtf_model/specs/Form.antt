@@ -56,6 +56,7 @@ IsFormOp data_is (op.Rmdir p) = IsPath p
 IsFormOp data_is (op.Create p) = IsPath p
 IsFormOp data_is (op.Unlink p) = IsPath p
 IsFormOp data_is (op.Rename p q) = IsPath p × IsPath q
+IsFormOp data_is (op.Link p q) = IsPath p × IsPath q
 IsFormOp data_is (op.List p) = IsPath p
 IsFormOp data_is (op.Stat p) = IsPath p
 IsFormOp data_is (op.Open f p) = IsHandle f × IsPath p

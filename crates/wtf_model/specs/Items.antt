@@ -1,4 +1,5 @@
--- What calls read and change of a tree, item by item: what stands at a path, the names in a directory, the bytes of a file.
+-- What calls read and change of a tree, item by item: what stands at a path, the names in a directory, the bytes of a file, and
+-- how many paths it has.
 -- A call reads its items whatever it answers, and changes its items where it is not refused. A handle is on the path that it has
 -- in the session; a label that is not open has no file.
 -- NSDI 2016, section 2.6; the items are this store's own.
@@ -7,14 +8,14 @@ use Rattle.std.specs.List.{list_any}
 use Rattle.std.specs.FinMap.{get}
 use Rattle.wtf_path.specs.Parts.{parent_of}
 use Rattle.wtf_model.specs.declared.item.Item.{Item}
-use Rattle.wtf_model.specs.declared.item.Item.TheVariants.{NodeOf, NamesOf, BodyOf}
+use Rattle.wtf_model.specs.declared.item.Item.TheVariants.{NodeOf, NamesOf, BodyOf, LinksOf}
 use Rattle.wtf_model.specs.declared.answer.Answer.{Answer}
 use Rattle.wtf_model.specs.declared.answer.Answer.TheVariants.{Refused}
 use Rattle.wtf_model.specs.declared.op.Op.{Op}
 use Rattle.wtf_model.specs.declared.op.Op.TheVariants as op
 use Rattle.wtf_model.specs.declared.op.Seek.{Seek}
 use Rattle.wtf_model.specs.declared.op.Seek.TheVariants as to
-use Rattle.wtf_model.specs.Tree.{path_list, Tree, paths_at}
+use Rattle.wtf_model.specs.Tree.{PathSet, with_path, path_list, Tree, paths_at}
 use Rattle.wtf_model.specs.Session.{Session, Handle, fresh}
 use Rattle.wtf_model.specs.Call.{call}
 
@@ -23,6 +24,7 @@ abbrev pub same_item : Item → Item → Bool
 same_item (NodeOf p) (NodeOf q) = bytes_eq p q
 same_item (NamesOf p) (NamesOf q) = bytes_eq p q
 same_item (BodyOf p) (BodyOf q) = bytes_eq p q
+same_item (LinksOf p) (LinksOf q) = bytes_eq p q
 same_item i j = false
 
 -- an item is one of these
@@ -50,6 +52,10 @@ target_reads p = NodeOf p ∷ node_above (parent_of p)
 abbrev pub source_reads : List ℕ → List Item
 source_reads p = NodeOf p ∷ BodyOf p ∷ []
 
+-- and how many paths it has
+abbrev pub file_reads : List ℕ → List Item
+file_reads p = NodeOf p ∷ BodyOf p ∷ LinksOf p ∷ []
+
 abbrev pub sources_reads : List (List ℕ) → List Item
 sources_reads [] = []
 sources_reads (p ∷ ps) = source_reads p ++ sources_reads ps
@@ -76,10 +82,11 @@ abbrev pub reads : Session → Op (List ℕ) → List Item
 reads s (op.Mkdir p) = target_reads p
 reads s (op.Rmdir p) = folder_reads p
 reads s (op.Create p) = target_reads p
-reads s (op.Unlink p) = NodeOf p ∷ []
-reads s (op.Rename p q) = source_reads p ++ target_reads q
+reads s (op.Unlink p) = NodeOf p ∷ LinksOf p ∷ []
+reads s (op.Rename p q) = file_reads p ++ target_reads q
+reads s (op.Link p q) = file_reads p ++ target_reads q
 reads s (op.List p) = folder_reads p
-reads s (op.Stat p) = source_reads p
+reads s (op.Stat p) = file_reads p
 reads s (op.Open f p) = NodeOf p ∷ []
 reads s (op.Close f) = []
 reads s (op.Seek f place) = seek_reads s f place
@@ -101,6 +108,10 @@ reads s (op.Copy p q) = source_reads p ++ target_reads q
 abbrev pub bodies_at : Tree → List ℕ → List Item
 bodies_at t p = map (λ q. BodyOf q) (path_list (paths_at t p))
 
+-- how many paths a file has, by each of these
+abbrev pub links_of : PathSet → List Item
+links_of paths = map (λ q. LinksOf q) (path_list paths)
+
 abbrev pub bodies_of : Tree → Option Handle → List Item
 bodies_of t None = []
 bodies_of t (Some h) = bodies_at t h.path
@@ -120,8 +131,9 @@ abbrev pub changes : Session → Op (List ℕ) → List Item
 changes s (op.Mkdir p) = folder_changes p
 changes s (op.Rmdir p) = folder_changes p
 changes s (op.Create p) = file_changes p
-changes s (op.Unlink p) = file_changes p
+changes s (op.Unlink p) = file_changes p ++ links_of (paths_at s.tree p)
 changes s (op.Rename p q) = file_changes p ++ file_changes q
+changes s (op.Link p q) = file_changes q ++ links_of (with_path (paths_at s.tree p) q)
 changes s (op.Write f bytes) = handle_changes s f
 changes s (op.Append f bytes) = handle_changes s f
 changes s (op.Truncate f n) = handle_changes s f

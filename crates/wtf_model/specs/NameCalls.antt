@@ -5,9 +5,9 @@ use Rattle.wtf_model.specs.declared.answer.Word.{Word}
 use Rattle.wtf_model.specs.declared.answer.Word.TheVariants.{Root, NoEnt}
 use Rattle.wtf_model.specs.declared.answer.Answer.{Answer}
 use Rattle.wtf_model.specs.declared.answer.Answer.TheVariants as answer
-use Rattle.wtf_model.specs.Tree.{TreeNode, Dir, File, root, ◌>>=◌, target, source, is_directory, is_empty, names_in}
+use Rattle.wtf_model.specs.Tree.{path_count, TreeNode, Dir, File, root, ◌>>=◌, target, source, is_directory, is_empty, names_in}
 use Rattle.wtf_model.specs.Session.{Session}
-use Rattle.wtf_model.specs.Done.{Done, done, is_closed, put_node, add_file, take_out, drop_path, move_file}
+use Rattle.wtf_model.specs.Done.{Done, done, is_closed, put_node, add_file, take_out, drop_path, move_file, add_path}
 
 -- mkdir P: an empty directory at P
 unfoldable pub mkdir : Session → List ℕ → Result Done Word
@@ -48,6 +48,13 @@ rename s p q = do
   _ ← target s.tree q
   done (move_file s p q bytes) answer.Okay
 
+-- link P Q: Q is one more path of the file P
+unfoldable pub link : Session → List ℕ → List ℕ → Result Done Word
+link s p q = do
+  bytes ← source s.tree p
+  _ ← target s.tree q
+  done (add_path s p q bytes) answer.Okay
+
 -- list P: the names in the directory P
 unfoldable pub list : Session → List ℕ → Result Done Word
 list s p = do
@@ -56,10 +63,10 @@ list s p = do
 
 abbrev pub shown_node : Option TreeNode → Result Answer Word
 shown_node (Some Dir) = Ok answer.Dir
-shown_node (Some (File paths bytes)) = Ok (answer.File (length bytes))
+shown_node (Some (File paths bytes)) = Ok (answer.File (length bytes) (path_count paths))
 shown_node None = Err NoEnt
 
--- stat P: what stands at P, and a file's length
+-- stat P: what stands at P, and a file's length and how many paths it has
 unfoldable pub stat : Session → List ℕ → Result Done Word
 stat s p = do
   shown ← shown_node (get s.tree p)

@@ -2,7 +2,7 @@
 -- NSDI 2016, section 2.4 (one map from paths to inodes, directories kept beside it).
 use Rattle.std.specs.Prelude.{◌≡◌, ℕ, Bool, true, false, List, [], ◌∷◌, ◌++◌, map, length, filter, bytes_eq, Option, Some, None, IsSome, Result, Ok, Err}
 use Rattle.std.specs.FinSet.{FinSet}
-use Rattle.std.specs.FinMap.{FinMap, get, insert, remove, empty, contains_key, entries, keys}
+use Rattle.std.specs.FinMap.{FinMap, get, insert, remove, empty, contains_key, entries, keys, len}
 use Rattle.std.specs.Cmp.Lexicographic.{slice_cmp}
 use Rattle.std.specs.Ordering.{nat_cmp}
 use Rattle.wtf_path.specs.Grammar.{IsPath}
@@ -32,9 +32,12 @@ with_path paths p = insert paths p tt
 abbrev pub without_path : PathSet → List ℕ → PathSet
 without_path paths p = remove paths p
 
--- the paths of a set, in byte order
+-- the paths of a set, in byte order, and how many they are
 abbrev pub path_list : PathSet → List (List ℕ)
 path_list paths = keys paths
+
+abbrev pub path_count : PathSet → ℕ
+path_count paths = len paths
 
 -- what stands at a path: a directory, or a file with all its paths and its bytes
 pub data TreeNode : Type 0 where

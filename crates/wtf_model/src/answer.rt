@@ -89,7 +89,8 @@ pub enum Answer {
     At(u64),
     Len(u64),
     Dir,
-    File { len: u64 },
+    /// A file, by its length and how many paths it has.
+    File { len: u64, links: u64 },
     Names(Names),
     Committed(u64),
     Retry { base: u64, now: u64 },

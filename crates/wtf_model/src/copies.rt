@@ -31,6 +31,7 @@ pub fn copy_op(alloc: Global, op: &Op<Bytes>) -> Result<Op<Bytes>, OutOfMemory>
         Op::Create(p) => Ok(Op::Create(p.copy(alloc)?)),
         Op::Unlink(p) => Ok(Op::Unlink(p.copy(alloc)?)),
         Op::Rename(p, q) => Ok(Op::Rename(p.copy(alloc)?, q.copy(alloc)?)),
+        Op::Link(p, q) => Ok(Op::Link(p.copy(alloc)?, q.copy(alloc)?)),
         Op::List(p) => Ok(Op::List(p.copy(alloc)?)),
         Op::Stat(p) => Ok(Op::Stat(p.copy(alloc)?)),
         Op::Open(f, p) => Ok(Op::Open(*f, p.copy(alloc)?)),

@@ -15,6 +15,8 @@ pub enum Item {
     NamesOf(Path),
     /// The bytes of a file.
     BodyOf(Path),
+    /// How many paths a file has.
+    LinksOf(Path),
 }
 
 impl Item {
@@ -26,6 +28,7 @@ impl Item {
             Item::NodeOf(p) => Ok(Item::NodeOf(p.copy(alloc)?)),
             Item::NamesOf(p) => Ok(Item::NamesOf(p.copy(alloc)?)),
             Item::BodyOf(p) => Ok(Item::BodyOf(p.copy(alloc)?)),
+            Item::LinksOf(p) => Ok(Item::LinksOf(p.copy(alloc)?)),
         }
     }
 }

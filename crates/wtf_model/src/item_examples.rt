@@ -5,13 +5,13 @@ ghost use Rattle.std.specs.FinMap.{get};
 ghost use Rattle.wtf_model.specs.declared.answer.Answer.TheVariants as answer;
 ghost use Rattle.wtf_model.specs.declared.answer.Word.{Word};
 ghost use Rattle.wtf_model.specs.declared.item.Item.{Item};
-ghost use Rattle.wtf_model.specs.declared.item.Item.TheVariants.{NodeOf, NamesOf, BodyOf};
+ghost use Rattle.wtf_model.specs.declared.item.Item.TheVariants.{NodeOf, NamesOf, BodyOf, LinksOf};
 ghost use Rattle.wtf_model.specs.declared.op.Op.{Op};
 ghost use Rattle.wtf_model.specs.declared.op.Op.TheVariants as op;
 ghost use Rattle.wtf_model.specs.declared.op.Seek.TheVariants as to;
 ghost use Rattle.wtf_model.specs.declared.event.Verb.TheVariants as verb;
 ghost use Rattle.wtf_model.specs.declared.event.Event.TheVariants as event;
-ghost use Rattle.wtf_model.specs.Tree.{only_path, path_list, File, Tree, root, root_alone, paths_at};
+ghost use Rattle.wtf_model.specs.Tree.{only_path, with_path, path_list, File, Tree, root, root_alone, paths_at};
 ghost use Rattle.wtf_model.specs.Session.{Session, Handle};
 ghost use Rattle.wtf_model.specs.Call.{call};
 ghost use Rattle.wtf_model.specs.Items.{is_among, meets, reads, writes, reads_of, writes_of, file_changes, folder_changes};
@@ -40,18 +40,32 @@ pub fn calls_by_handles()
 {}
 
 /// A call on names reads what stands at its paths and at the parents of new ones, and changes that and the names there. The root
-/// has no parent.
+/// has no parent. A file that loses a path has another number of them, by each of them.
 pub fn calls_on_names()
     ensures made { (s : Session) → reads s (op.Mkdir (codes "/d/e")) ≡
         NodeOf (codes "/d/e") ∷ NodeOf (codes "/d") ∷ [] }
     ensures root_made { (s : Session) → reads s (op.Mkdir root) ≡ NodeOf root ∷ [] }
     ensures moved { (s : Session) → reads s (op.Rename (codes "/a") (codes "/d/b")) ≡
-        NodeOf (codes "/a") ∷ BodyOf (codes "/a") ∷ NodeOf (codes "/d/b") ∷ NodeOf (codes "/d") ∷ [] }
+        NodeOf (codes "/a") ∷ BodyOf (codes "/a") ∷ LinksOf (codes "/a") ∷ NodeOf (codes "/d/b") ∷ NodeOf (codes "/d") ∷ [] }
     ensures moves { (cap : ℕ) (s : Session) →
         (call cap s (op.Rename (codes "/a") (codes "/d/b"))).answer ≡ answer.Okay →
         writes cap s (op.Rename (codes "/a") (codes "/d/b")) ≡
         NodeOf (codes "/a") ∷ BodyOf (codes "/a") ∷ NamesOf root ∷
         NodeOf (codes "/d/b") ∷ BodyOf (codes "/d/b") ∷ NamesOf (codes "/d") ∷ [] }
+    ensures linked { (s : Session) → reads s (op.Link (codes "/a") (codes "/d/b")) ≡
+        NodeOf (codes "/a") ∷ BodyOf (codes "/a") ∷ LinksOf (codes "/a") ∷ NodeOf (codes "/d/b") ∷ NodeOf (codes "/d") ∷ [] }
+    ensures links { (cap : ℕ) (s : Session) →
+        (call cap s (op.Link (codes "/a") (codes "/d/b"))).answer ≡ answer.Okay →
+        writes cap s (op.Link (codes "/a") (codes "/d/b")) ≡
+        NodeOf (codes "/d/b") ∷ BodyOf (codes "/d/b") ∷ NamesOf (codes "/d") ∷
+        map (λ q. LinksOf q) (path_list (with_path (paths_at s.tree (codes "/a")) (codes "/d/b"))) }
+    ensures told { (s : Session) → reads s (op.Stat (codes "/a")) ≡
+        NodeOf (codes "/a") ∷ BodyOf (codes "/a") ∷ LinksOf (codes "/a") ∷ [] }
+    ensures dropped { (cap : ℕ) (s : Session) →
+        (call cap s (op.Unlink (codes "/a"))).answer ≡ answer.Okay →
+        writes cap s (op.Unlink (codes "/a")) ≡
+        NodeOf (codes "/a") ∷ BodyOf (codes "/a") ∷ NamesOf root ∷
+        map (λ q. LinksOf q) (path_list (paths_at s.tree (codes "/a"))) }
     ensures joined { (s : Session) →
         reads s (op.Concat (codes "/c") (codes "/a" ∷ codes "/b" ∷ [])) ≡
         NodeOf (codes "/c") ∷ NodeOf root ∷ NodeOf (codes "/a") ∷ BodyOf (codes "/a") ∷
@@ -62,7 +76,7 @@ pub fn calls_on_names()
 pub fn refused_calls()
     ensures changes_nothing { (cap : ℕ) (s : Session) (o : Op (List ℕ)) (w : Word) →
         (call cap s o).answer ≡ answer.Refused w → writes cap s o ≡ [] }
-    ensures run_of_one { (cap : ℕ) (t : Tree) (p : List ℕ) → reads_of cap t (op.Unlink p ∷ []) ≡ NodeOf p ∷ [] }
+    ensures run_of_one { (cap : ℕ) (t : Tree) (p : List ℕ) → reads_of cap t (op.Unlink p ∷ []) ≡ NodeOf p ∷ LinksOf p ∷ [] }
 {}
 
 /// What a commit changes, each other open transaction and each job sees as changed by others.

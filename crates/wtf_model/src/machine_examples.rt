@@ -133,13 +133,13 @@ pub fn commits()
         (n ≡ m.number + 1) × (answers_of (cap_of m) m.now t.ops ≡ t.shown) }
     ensures a_file_grew { (m : Machine) (c : ℕ) (t : Transaction) (r : Answer) →
         get m.transactions c ≡ Some t →
-        answers_of (cap_of m) m.now t.ops ≡ answer.File 3 ∷ [] → t.shown ≡ answer.File 0 ∷ [] →
-        IsAborted 1 (answer.File 3) r →
+        answers_of (cap_of m) m.now t.ops ≡ answer.File 3 1 ∷ [] → t.shown ≡ answer.File 0 1 ∷ [] →
+        IsAborted 1 (answer.File 3 1) r →
         May m (event.Client c verb.Commit) r }
     ensures never_without_cause { (shown : List Answer) (i : ℕ) (a : Answer) →
         Deviates shown shown i a → ⊥ }
     ensures at_the_first { (i : ℕ) (a : Answer) →
-        Deviates (answer.Okay ∷ answer.File 3 ∷ []) (answer.File 1 ∷ answer.File 0 ∷ []) i a →
+        Deviates (answer.Okay ∷ answer.File 3 1 ∷ []) (answer.File 1 1 ∷ answer.File 0 1 ∷ []) i a →
         i ≡ 1 }
     ensures ended { (m : Machine) (c i : ℕ) (t : Transaction) (a r : Answer) →
         get m.transactions c ≡ Some t → IsAborted i a r →

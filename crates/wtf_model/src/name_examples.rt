@@ -5,10 +5,10 @@ ghost use Rattle.std.specs.FinMap.{get};
 ghost use Rattle.wtf_model.specs.declared.answer.Answer.TheVariants as answer;
 ghost use Rattle.wtf_model.specs.declared.answer.Word.TheVariants as word;
 ghost use Rattle.wtf_model.specs.declared.op.Op.TheVariants as op;
-ghost use Rattle.wtf_model.specs.Tree.{PathSet, only_path, TreeNode, root, names_in, rows_of, paths_in};
+ghost use Rattle.wtf_model.specs.Tree.{PathSet, only_path, path_count, TreeNode, root, names_in, rows_of, paths_in};
 ghost use Rattle.wtf_model.specs.Tree as node;
 ghost use Rattle.wtf_model.specs.Session.{Session};
-ghost use Rattle.wtf_model.specs.Done.{put_node, add_file, take_out, drop_path, move_file};
+ghost use Rattle.wtf_model.specs.Done.{put_node, add_file, take_out, drop_path, move_file, add_path};
 ghost use Rattle.wtf_model.specs.Call.{call};
 ghost use Rattle.wtf_model.specs.Examples.{IsFreeIn, IsClosed, IsBusy, answering, unchanged, logs_tree};
 
@@ -80,6 +80,23 @@ pub fn renames_files()
         call cap s (op.Rename p (codes "/x/y")) ≡ unchanged s (answer.Refused word.NoParent) }
 {}
 
+/// A path more of a file is free, below a directory. It is refused for what is no file.
+pub fn links_files()
+    ensures linked { (cap : ℕ) (s : Session) (p q dir : List ℕ) (paths : PathSet) (bytes : List ℕ) →
+        get s.tree p ≡ Some (node.File paths bytes) → IsFreeIn s.tree q dir →
+        call cap s (op.Link p q) ≡ answering (add_path s p q bytes) answer.Okay }
+    ensures onto_itself { (cap : ℕ) (s : Session) (paths : PathSet) (bytes : List ℕ) →
+        get s.tree root ≡ Some node.Dir → get s.tree (codes "/a") ≡ Some (node.File paths bytes) →
+        call cap s (op.Link (codes "/a") (codes "/a")) ≡ unchanged s (answer.Refused word.Exists) }
+    ensures directory { (cap : ℕ) (s : Session) (p q : List ℕ) → get s.tree p ≡ Some node.Dir →
+        call cap s (op.Link p q) ≡ unchanged s (answer.Refused word.IsDir) }
+    ensures missing { (cap : ℕ) (s : Session) (p q : List ℕ) → get s.tree p ≡ None →
+        call cap s (op.Link p q) ≡ unchanged s (answer.Refused word.NoEnt) }
+    ensures no_parent { (cap : ℕ) (s : Session) (p : List ℕ) (paths : PathSet) (bytes : List ℕ) →
+        get s.tree p ≡ Some (node.File paths bytes) → get s.tree (codes "/x") ≡ None →
+        call cap s (op.Link p (codes "/x/y")) ≡ unchanged s (answer.Refused word.NoParent) }
+{}
+
 /// A copy is a file of its own with the same bytes. A directory is not copied.
 pub fn copies_files()
     ensures copied { (cap : ℕ) (s : Session) (p q dir : List ℕ) (paths : PathSet) (bytes : List ℕ) →
@@ -94,11 +111,14 @@ pub fn copies_files()
         call cap s (op.Copy p q) ≡ unchanged s (answer.Refused word.NoEnt) }
 {}
 
-/// A path tells what stands there, and a file its length.
+/// A path tells what stands there, and a file its length and how many paths it has.
 pub fn tells_nodes()
     ensures file { (cap : ℕ) (s : Session) (p : List ℕ) (paths : PathSet) →
         get s.tree p ≡ Some (node.File paths (codes "xyz")) →
-        call cap s (op.Stat p) ≡ unchanged s (answer.File 3) }
+        call cap s (op.Stat p) ≡ unchanged s (answer.File 3 (path_count paths)) }
+    ensures alone { (cap : ℕ) (s : Session) (p : List ℕ) →
+        get s.tree p ≡ Some (node.File (only_path p) (codes "xyz")) →
+        call cap s (op.Stat p) ≡ unchanged s (answer.File 3 1) }
     ensures directory { (cap : ℕ) (s : Session) (p : List ℕ) → get s.tree p ≡ Some node.Dir →
         call cap s (op.Stat p) ≡ unchanged s answer.Dir }
     ensures missing { (cap : ℕ) (s : Session) (p : List ℕ) → get s.tree p ≡ None →

@@ -34,6 +34,7 @@ pub enum Op<D> {
     Create(Path),
     Unlink(Path),
     Rename(Path, Path),
+    Link(Path, Path),
     List(Path),
     Stat(Path),
     Open(u8, Path),

@@ -77,7 +77,10 @@ impl Answer {
             Answer::At(off) => Ok(Answer::At(*off)),
             Answer::Len(len) => Ok(Answer::Len(*len)),
             Answer::Dir => Ok(Answer::Dir),
-            Answer::File { len } => Ok(Answer::File { len: *len }),
+            Answer::File { len, links } => Ok(Answer::File {
+                len: *len,
+                links: *links,
+            }),
             Answer::Names(names) => Ok(Answer::Names(names.copy(alloc)?)),
             Answer::Committed(n) => Ok(Answer::Committed(*n)),
             Answer::Retry { base, now } => Ok(Answer::Retry {
@@ -124,7 +127,7 @@ pub fn is_same_answer(shown: &Answer, now: &Answer) -> bool
         (Answer::At(x), Answer::At(y)) => x == y,
         (Answer::Len(x), Answer::Len(y)) => x == y,
         (Answer::Dir, Answer::Dir) => true,
-        (Answer::File { len: x }, Answer::File { len: y }) => x == y,
+        (Answer::File { len: x, links: a }, Answer::File { len: y, links: b }) => x == y && a == b,
         (Answer::Names(x), Answer::Names(y)) => x == y,
         (Answer::Refused(x), Answer::Refused(y)) => x == y,
         _ => false,

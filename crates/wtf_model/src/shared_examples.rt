@@ -5,7 +5,7 @@ ghost use Rattle.std.specs.FinMap.{get};
 ghost use Rattle.wtf_model.specs.Tree.{PathSet, has_path, with_path, without_path, IsTree};
 ghost use Rattle.wtf_model.specs.Tree as node;
 ghost use Rattle.wtf_model.specs.Session.{Session};
-ghost use Rattle.wtf_model.specs.Done.{set_bytes, drop_path, move_file};
+ghost use Rattle.wtf_model.specs.Done.{set_bytes, drop_path, move_file, add_path};
 
 /// Bytes that are changed by one path of a file are changed by all of its paths, and by no other.
 pub fn bytes_are_shared()
@@ -43,4 +43,14 @@ pub fn paths_are_moved()
         get s.tree p ≡ Some (node.File paths bytes) → has_path paths other ≡ true → other ≢ p →
         get (move_file s p q bytes).tree other ≡
         Some (node.File (with_path (without_path paths p) q) bytes) }
+{}
+
+/// A file with one path more stands there, and at all that it had.
+pub fn paths_are_added()
+    ensures there { (s : Session) (p q : List ℕ) (paths : PathSet) (bytes : List ℕ) →
+        get s.tree p ≡ Some (node.File paths bytes) →
+        get (add_path s p q bytes).tree q ≡ Some (node.File (with_path paths q) bytes) }
+    ensures kept { (s : Session) (p q other : List ℕ) (paths : PathSet) (bytes : List ℕ) →
+        get s.tree p ≡ Some (node.File paths bytes) → has_path paths other ≡ true →
+        get (add_path s p q bytes).tree other ≡ Some (node.File (with_path paths q) bytes) }
 {}

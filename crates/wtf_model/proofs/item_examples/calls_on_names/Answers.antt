@@ -9,5 +9,9 @@ returns c = record {
   root_made = λ s. refl;
   moved = λ s. refl;
   moves = λ cap s fine. writes-okay cap s (op.Rename (codes "/a") (codes "/d/b")) fine;
+  linked = λ s. refl;
+  links = λ cap s fine. writes-okay cap s (op.Link (codes "/a") (codes "/d/b")) fine;
+  told = λ s. refl;
+  dropped = λ cap s fine. writes-okay cap s (op.Unlink (codes "/a")) fine;
   joined = λ s. refl;
 }
