@@ -10,7 +10,7 @@ use Rattle.wtf_model.specs.Session.{Session}
 use Rattle.wtf_model.specs.Done.{is_on, refiled, set_bytes}
 use Rattle.wtf_model.specs.Call.{call}
 use Rattle.wtf_model.proofs.CallLaws.{source-file}
-use Rattle.wtf_model.proofs.NameLaws.{unlink-done, rename-done}
+use Rattle.wtf_model.proofs.NameLaws.{unlink-done, rename-done, link-done}
 use Rattle.wtf_model.proofs.PathLaws.{has-none, get-refiled_out, same_tree}
 
 -- what is no file has no path, and nothing changes
@@ -48,6 +48,10 @@ module _ (s : Session) (p : List ℕ) (own kept : PathSet) (old bytes : List ℕ
   told : (f : PathSet → PathSet) (new : Session) → new ≡ record s { tree = refiled s.tree kept (f kept) bytes }
       → new ≡ record s { tree = refiled s.tree (paths_of (get s.tree p)) (f (paths_of (get s.tree p))) bytes }
   told f new is = is ∙ sym (ap (λ (o : Option TreeNode). record s { tree = refiled s.tree (paths_of o) (f (paths_of o)) bytes }) at_kept)
+
+  pub link_in : (cap : ℕ) (new : Session) (q : List ℕ) → Ok tt ≡ target s.tree q → new ≡ record s { tree = refiled s.tree kept (with_path kept q) bytes }
+      → call cap s (op.Link p q) ≡ record { session = new; answer = answer.Okay }
+  link_in cap new q free is = link-done cap s p q bytes new file_there (sym free) (told (λ paths. with_path paths q) new is)
 
   module _ (cap : ℕ) (new : Session) (off : false ≡ list_any (is_on p) (values s.handles)) where
     pub unlink_in : new ≡ record s { tree = refiled s.tree kept (without_path kept p) bytes }

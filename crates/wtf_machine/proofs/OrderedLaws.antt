@@ -11,6 +11,7 @@ use Rattle.std.proofs.Common.{
   ◌∷◌,
   ◌++◌,
   map,
+  length,
   Option,
   Some,
   IsTrue,
@@ -22,7 +23,7 @@ use Rattle.std.proofs.Common.{
   append_assoc,
   append-nil,
 }
-use Rattle.std.proofs.lemmas.List.{nil_from_length}
+use Rattle.std.proofs.lemmas.List.{nil_from_length, length-map}
 use Rattle.std.proofs.lemmas.Map.Keys.{sorted_head, sorted_tail}
 use Rattle.std.proofs.lemmas.Map.Text.{is_eq-slice_cmp}
 use Rattle.std.specs.declared.cmp.Ordering.{Ordering}
@@ -39,11 +40,10 @@ use Rattle.std.specs.FinMap.Entries.{put, by_order, find}
 use Rattle.wtf_path.specs.Parts.{name_of}
 use Rattle.wtf_model.specs.declared.lists.Row.{Row}
 use Rattle.wtf_model.specs.declared.item.Item.{Item}
-use Rattle.wtf_model.specs.declared.item.Item.TheVariants.{BodyOf}
 use Rattle.wtf_machine.specs.declared.path_map.PathNode.{PathNode}
 use Rattle.wtf_machine.specs.Entries.{map_of, set_of}
 use Rattle.wtf_machine.specs.Maps.{node_of, tree_of}
-use Rattle.wtf_model.specs.Tree.{PathSet, path_list, Tree, TreeNode, Dir, is_in, paths_in, names_in, rows_of, shown_row}
+use Rattle.wtf_model.specs.Tree.{PathSet, path_list, path_count, Tree, TreeNode, Dir, is_in, paths_in, names_in, rows_of, shown_row}
 
 -- entries with each value as f tells
 abbrev pub seen : {K X Y : Type 0} → (X → Y) → List (K × X) → List (K × Y)
@@ -94,24 +94,31 @@ pub all-left : (ps : List (List ℕ)) (rest es : List (List ℕ × Unit {0})) (s
     → ps ≡ map (λ e. e.0) rest ++ []
 all-left ps rest es s all is ordered same = same ∙ paths-set rest es s all is ordered ∙ sym (append-nil (map (λ e. e.0) rest))
 
--- the items of their bytes, behind none
-pub bodies-set : (rest es : List (List ℕ × Unit {0})) (s : PathSet) (items : List Item) → rest ≡ es → set_of es ≡ s
-    → IsStrictlySortedBy (slice_cmp nat_cmp) (keys_of es) → items ≡ []
-    → items ++ map (λ e. BodyOf e.0) rest ≡ map (λ q. BodyOf q) (path_list s)
-bodies-set rest es s items all is ordered none =
-    ap (λ l. l ++ map (λ e. BodyOf e.0) rest) none ∙ sym (map_twice rest) ∙ ap (map (λ q. BodyOf q)) (sym (paths-set rest es s all is ordered))
-  where
-    map_twice : (es : List (List ℕ × Unit {0})) → map (λ q. BodyOf q) (map (λ e. e.0) es) ≡ map (λ e. BodyOf e.0) es
-    map_twice [] = refl
-    map_twice (e ∷ es) = ap (λ l. BodyOf e.0 ∷ l) (map_twice es)
+module _ (item : List ℕ → Item) where
+  -- an item of each of them, behind none
+  pub items-set : (rest es : List (List ℕ × Unit {0})) (s : PathSet) (items : List Item) → rest ≡ es → set_of es ≡ s
+      → IsStrictlySortedBy (slice_cmp nat_cmp) (keys_of es) → items ≡ []
+      → items ++ map (λ e. item e.0) rest ≡ map item (path_list s)
+  items-set rest es s items all is ordered none =
+      ap (λ l. l ++ map (λ e. item e.0) rest) none ∙ sym (map_twice rest) ∙ ap (map item) (sym (paths-set rest es s all is ordered))
+    where
+      map_twice : (es : List (List ℕ × Unit {0})) → map item (map (λ e. e.0) es) ≡ map (λ e. item e.0) es
+      map_twice [] = refl
+      map_twice (e ∷ es) = ap (λ l. item e.0 ∷ l) (map_twice es)
 
--- one more item is behind those so far
-pub bodies-more : (made next : List Item) (left rest : List (List ℕ × Unit {0})) (p : List ℕ) (u : Unit {0}) (q : List ℕ) (all : List Item)
-    → left ≡ (p, u) ∷ rest → q ≡ p → next ≡ made ++ BodyOf q ∷ []
-    → made ++ map (λ e. BodyOf e.0) left ≡ all → next ++ map (λ e. BodyOf e.0) rest ≡ all
-bodies-more made next left rest p u q all front same end so_far =
-    ap (λ l. l ++ map (λ e. BodyOf e.0) rest) end ∙ append_assoc made (BodyOf q ∷ []) (map (λ e. BodyOf e.0) rest)
-    ∙ ap (λ r. made ++ BodyOf r ∷ map (λ e. BodyOf e.0) rest) same ∙ ap (λ es. made ++ map (λ e. BodyOf e.0) es) (sym front) ∙ so_far
+  -- one more item is behind those so far
+  pub items-more : (made next : List Item) (left rest : List (List ℕ × Unit {0})) (p : List ℕ) (u : Unit {0}) (q : List ℕ) (all : List Item)
+      → left ≡ (p, u) ∷ rest → q ≡ p → next ≡ made ++ item q ∷ []
+      → made ++ map (λ e. item e.0) left ≡ all → next ++ map (λ e. item e.0) rest ≡ all
+  items-more made next left rest p u q all front same end so_far =
+      ap (λ l. l ++ map (λ e. item e.0) rest) end ∙ append_assoc made (item q ∷ []) (map (λ e. item e.0) rest)
+      ∙ ap (λ r. made ++ item r ∷ map (λ e. item e.0) rest) same ∙ ap (λ es. made ++ map (λ e. item e.0) es) (sym front) ∙ so_far
+
+-- how many they are
+pub count-set : (es : List (List ℕ × Unit {0})) (s : PathSet) → set_of es ≡ s → IsStrictlySortedBy (slice_cmp nat_cmp) (keys_of es) → length es ≡ path_count s
+count-set es s is ordered =
+    sym (length-map es (λ e. (e.0, e.1))) ∙ ap length (sym (entries-map_of nat_list_cmp_total (λ u. u) es ordered)) ∙ sym (len-entries (set_of es))
+    ∙ ap (λ (x : PathSet). path_count x) is
 
 -- the last one that is left is reached
 pub last-left : (ps : List (List ℕ)) (rest left : List (List ℕ × Unit {0})) (p : List ℕ) (u : Unit {0}) (done : List (List ℕ))

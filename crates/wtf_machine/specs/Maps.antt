@@ -12,13 +12,13 @@ use Rattle.wtf_model.specs.Tree.{Tree, TreeNode, Dir, File}
 use Rattle.wtf_model.specs.Session.{Handle}
 
 -- a file: all its paths, and its bytes
-abbrev pub file_of : FileContent → TreeNode
-file_of f = File f.paths.value (rc_slice_items f.bytes)
+abbrev pub content_node : FileContent → TreeNode
+content_node f = File f.paths.value (rc_slice_items f.bytes)
 
 -- what stands at a path
 abbrev pub node_of : PathNode → TreeNode
 node_of kept.Folder = Dir
-node_of (kept.Content f) = file_of f
+node_of (kept.Content f) = content_node f
 
 abbrev pub tree_of : List (List ℕ × PathNode) → Tree
 tree_of es = map_of (slice_cmp nat_cmp) node_of es

@@ -19,6 +19,7 @@ impl Workspace {
             Op::Create(p) => self.create(p),
             Op::Unlink(p) => self.unlink(p),
             Op::Rename(p, q) => self.rename(p, q),
+            Op::Link(p, q) => self.link(p, q),
             Op::List(p) => self.list(p),
             Op::Stat(p) => self.stat(p),
             Op::Open(f, p) => self.open(*f, p),

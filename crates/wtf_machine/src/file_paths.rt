@@ -2,7 +2,8 @@
 
 ghost use Rattle.std.specs.Prelude.{◌≡◌, map, IfOk, OnOk};
 ghost use Rattle.wtf_model.specs.declared.item.Item.TheVariants as item;
-ghost use Rattle.wtf_model.specs.Tree.{only_path, with_path, without_path, path_list};
+ghost use Rattle.wtf_model.specs.Tree.{only_path, with_path, without_path, path_list, path_count};
+ghost use Rattle.wtf_model.specs.Items.{links_of};
 
 use std::alloc::Global;
 use std::collections::BTreeMap;
@@ -91,6 +92,35 @@ impl FilePaths {
         let mut moved = self.without(from)?;
         moved.add(to)?;
         Ok(moved)
+    }
+
+    /// The set with one path more.
+    pub(crate) fn with(&self, path: Path) -> Result<FilePaths, OutOfMemory>
+        ensures { IfOk result (λ paths. paths ≡ with_path self.now path) }
+    {
+        let mut more = self.copy()?;
+        more.add(path)?;
+        Ok(more)
+    }
+
+    /// How many paths there are.
+    pub(crate) fn count(&self) -> u64
+        ensures { result ≡ path_count self.now }
+    {
+        self.paths.len() as u64
+    }
+
+    /// How many paths the file has, by each of them.
+    pub(crate) fn links(&self) -> Result<Vec<Item>, OutOfMemory>
+        ensures { IfOk result (λ items. items.items ≡ links_of self.now) }
+    {
+        let mut links = Vec::new(self.alloc);
+        let mut rest = self.paths.iter();
+        while let Some((path, _)) = rest.next() {
+            let path = path.copy(self.alloc)?;
+            links.push(Item::LinksOf(path))?;
+        }
+        Ok(links)
     }
 
     /// The bytes of the file, by each of its paths.

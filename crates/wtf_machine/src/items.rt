@@ -17,6 +17,7 @@ fn is_node(p: &Path, it: &Item) -> bool
         Item::NodeOf(q) => *p == *q,
         Item::NamesOf(_) => false,
         Item::BodyOf(_) => false,
+        Item::LinksOf(_) => false,
     }
 }
 
@@ -28,6 +29,7 @@ fn is_names(p: &Path, it: &Item) -> bool
         Item::NodeOf(_) => false,
         Item::NamesOf(q) => *p == *q,
         Item::BodyOf(_) => false,
+        Item::LinksOf(_) => false,
     }
 }
 
@@ -39,6 +41,19 @@ fn is_body(p: &Path, it: &Item) -> bool
         Item::NodeOf(_) => false,
         Item::NamesOf(_) => false,
         Item::BodyOf(q) => *p == *q,
+        Item::LinksOf(_) => false,
+    }
+}
+
+/// Whether an item is how many paths a file has.
+fn is_links(p: &Path, it: &Item) -> bool
+    ensures { result ≡ same_item (item.LinksOf p.now) it.now }
+{
+    match it {
+        Item::NodeOf(_) => false,
+        Item::NamesOf(_) => false,
+        Item::BodyOf(_) => false,
+        Item::LinksOf(q) => *p == *q,
     }
 }
 
@@ -50,6 +65,7 @@ fn is_same(one: &Item, other: &Item) -> bool
         Item::NodeOf(p) => is_node(p, other),
         Item::NamesOf(p) => is_names(p, other),
         Item::BodyOf(p) => is_body(p, other),
+        Item::LinksOf(p) => is_links(p, other),
     }
 }
 

@@ -7,7 +7,7 @@ ghost use Rattle.wtf_model.specs.declared.op.Op.TheVariants as op;
 ghost use Rattle.wtf_model.specs.Tree.{with_path, without_path, root, target, source, is_directory};
 ghost use Rattle.wtf_model.specs.Done.{refiled, add_file};
 ghost use Rattle.wtf_model.specs.NameCalls.{shown_node};
-ghost use Rattle.wtf_machine.specs.Maps.{node_of, file_of};
+ghost use Rattle.wtf_machine.specs.Maps.{node_of, content_node};
 ghost use Rattle.wtf_machine.specs.Sessions.{session_in, IsCalled};
 
 use crate::file_paths::FilePaths;
@@ -33,6 +33,7 @@ fn shown_node(node: &PathNode) -> Answer
         PathNode::Folder => Answer::Dir,
         PathNode::Content(file) => Answer::File {
             len: file.bytes.len() as u64,
+            links: file.paths.count(),
         },
     }
 }
@@ -57,7 +58,7 @@ impl Workspace {
 
     /// The file at a path.
     pub(crate) fn file(&self, p: &Path) -> Result<&FileContent, Word>
-        ensures ok { IfOk result (λ f. get self.now.tree p.now ≡ Some (file_of f.now)) }
+        ensures ok { IfOk result (λ f. get self.now.tree p.now ≡ Some (content_node f.now)) }
         ensures bytes { IfOk result (λ f. source self.now.tree p.now ≡ Ok (rc_slice_items f.now.bytes)) }
         ensures err { IfErr result (λ w. source self.now.tree p.now ≡ Err w) }
     {
@@ -173,6 +174,21 @@ impl Workspace {
         self.tree.refile(&file.paths, &made)
     }
 
+    /// The file there gets one path more.
+    fn add_path(&mut self, q: &Path, file: &FileContent) -> Result<(), OutOfMemory>
+        ensures { OnOk result (session_in self.new ≡ record (session_in self.old) {
+          tree = refiled self.old.tree file.now.paths.value (with_path file.now.paths.value q.now)
+              (rc_slice_items file.now.bytes);
+        }) }
+    {
+        let own = q.copy(self.alloc)?;
+        let more = file.paths.with(own)?;
+        let paths = Rc::new(self.alloc, more)?;
+        let bytes = file.bytes.clone()?;
+        let made = FileContent { paths, bytes };
+        self.tree.refile(&file.paths, &made)
+    }
+
     /// Takes out a path of a file, which no handle is open on.
     pub(crate) fn unlink(&mut self, p: &Path) -> Result<Answer, OutOfMemory>
         ensures { IfOk result (λ a.
@@ -208,6 +224,22 @@ impl Workspace {
         Ok(Answer::Okay)
     }
 
+    /// Gives a file one path more, where nothing stands.
+    pub(crate) fn link(&mut self, p: &Path, q: &Path) -> Result<Answer, OutOfMemory>
+        ensures { IfOk result (λ a.
+            (cap : ℕ) → IsCalled cap (op.Link p.now q.now) self.old self.new a) }
+    {
+        let file = match self.file(p) {
+            Ok(file) => file.share()?,
+            Err(word) => return Ok(Answer::Refused(word)),
+        };
+        if let Err(word) = self.target(q) {
+            return Ok(Answer::Refused(word));
+        }
+        self.add_path(q, &file)?;
+        Ok(Answer::Okay)
+    }
+
     /// The names in a directory.
     pub(crate) fn list(&self, p: &Path) -> Result<Answer, OutOfMemory>
         ensures { IfOk result (λ a. (cap : ℕ) → IsCalled cap (op.List p.now) self.now self.now a) }
@@ -218,7 +250,7 @@ impl Workspace {
         Ok(Answer::Names(self.tree.names_in(p)?))
     }
 
-    /// What stands at a path, and the length of a file.
+    /// What stands at a path, and the length of a file and how many paths it has.
     pub(crate) fn stat(&self, p: &Path) -> Result<Answer, OutOfMemory>
         ensures { IfOk result (λ a. (cap : ℕ) → IsCalled cap (op.Stat p.now) self.now self.now a) }
     {

@@ -6,11 +6,11 @@ ghost use Rattle.std.specs.Option.{option_map};
 ghost use Rattle.std.specs.FinMap.{get, insert, remove};
 ghost use Rattle.std.specs.Rc.{rc_slice_items};
 ghost use Rattle.wtf_path.specs.Parts.{name_of};
-ghost use Rattle.wtf_model.specs.Tree.{no_paths, path_list, paths_at, Dir, root_alone, shown_len, shown_row, rows_of};
+ghost use Rattle.wtf_model.specs.Tree.{no_paths, with_path, path_list, paths_at, Dir, root_alone, shown_len, shown_row, rows_of};
 ghost use Rattle.wtf_model.specs.Tree.{is_in, paths_in, names_in};
 ghost use Rattle.wtf_model.specs.Done.{take_all, put_all, refiled};
-ghost use Rattle.wtf_model.specs.Items.{bodies_at};
-ghost use Rattle.wtf_machine.specs.Maps.{node_of, file_of};
+ghost use Rattle.wtf_model.specs.Items.{bodies_at, links_of};
+ghost use Rattle.wtf_machine.specs.Maps.{node_of, content_node};
 
 use crate::file_paths::FilePaths;
 use std::alloc::Global;
@@ -31,7 +31,7 @@ pub(crate) struct FileContent {
 impl FileContent {
     /// The same for a second holder. No path and no byte is copied.
     pub(crate) fn share(&self) -> Result<FileContent, OutOfMemory>
-        ensures { IfOk result (λ file. file_of file ≡ file_of self.now) }
+        ensures { IfOk result (λ file. content_node file ≡ content_node self.now) }
     {
         let paths = self.paths.clone()?;
         let bytes = self.bytes.clone()?;
@@ -179,7 +179,7 @@ impl PathMap {
 
     /// Puts a file at each of these paths. After an error the tree is of no use.
     fn put_each(&mut self, paths: &FilePaths, file: &FileContent) -> Result<(), OutOfMemory>
-        ensures { OnOk result (self.new ≡ put_all (file_of file.now) self.old (path_list paths.now)) }
+        ensures { OnOk result (self.new ≡ put_all (content_node file.now) self.old (path_list paths.now)) }
     {
         let mut rest = paths.paths.iter();
         while let Some((path, _)) = rest.next_back() {
@@ -202,7 +202,7 @@ impl PathMap {
 
     /// The file at a path.
     fn file(&self, path: &Path) -> Option<&FileContent>
-        ensures some { IfSome result (λ file. get self.now path.now ≡ Some (file_of file.now)) }
+        ensures some { IfSome result (λ file. get self.now path.now ≡ Some (content_node file.now)) }
         ensures none { IfNone result (paths_at self.now path.now ≡ no_paths) }
     {
         match self.node(path) {
@@ -219,6 +219,33 @@ impl PathMap {
         match self.file(path) {
             Some(file) => Ok(file.paths.bodies()?),
             None => Ok(Vec::new(self.alloc)),
+        }
+    }
+
+    /// How many paths the file at a path has, by each of them.
+    pub(crate) fn links_at(&self, path: &Path) -> Result<Vec<Item>, OutOfMemory>
+        ensures { IfOk result (λ items. items.items ≡ links_of (paths_at self.now path.now)) }
+    {
+        match self.file(path) {
+            Some(file) => Ok(file.paths.links()?),
+            None => Ok(Vec::new(self.alloc)),
+        }
+    }
+
+    /// How many paths the file at a path has with one more, by each of them.
+    pub(crate) fn links_with(&self, path: &Path, more: &Path) -> Result<Vec<Item>, OutOfMemory>
+        ensures { IfOk result (λ items. items.items ≡ links_of (with_path (paths_at self.now path.now) more.now)) }
+    {
+        let more = more.copy(self.alloc)?;
+        match self.file(path) {
+            Some(file) => {
+                let paths = file.paths.with(more)?;
+                Ok(paths.links()?)
+            }
+            None => {
+                let paths = FilePaths::only(self.alloc, more)?;
+                Ok(paths.links()?)
+            }
         }
     }
 

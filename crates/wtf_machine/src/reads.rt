@@ -5,7 +5,8 @@ ghost use Rattle.wtf_path.specs.Parts.{parent_of};
 ghost use Rattle.wtf_model.specs.declared.item.Item.TheVariants as item;
 ghost use Rattle.wtf_model.specs.Call.{call};
 ghost use Rattle.wtf_model.specs.Items as what;
-ghost use Rattle.wtf_model.specs.Items.{node_above, names_above, handle_reads, handle_changes, seek_reads};
+ghost use Rattle.wtf_model.specs.Items.{node_above, names_above, handle_reads, links_of, handle_changes, seek_reads};
+ghost use Rattle.wtf_model.specs.Tree.{with_path, paths_at};
 ghost use Rattle.wtf_machine.specs.Sessions.{session_in};
 
 use crate::items::{both, joined_items, only};
@@ -69,6 +70,25 @@ pub(crate) fn source_reads(alloc: Global, p: &Path) -> Result<Vec<Item>, OutOfMe
     Ok(both(alloc, Item::NodeOf(node), Item::BodyOf(body))?)
 }
 
+/// What stands at a path, and how many paths the file has.
+fn unlink_reads(alloc: Global, p: &Path) -> Result<Vec<Item>, OutOfMemory>
+    ensures { IfOk result (λ v. v.items ≡ item.NodeOf p.now ∷ item.LinksOf p.now ∷ []) }
+{
+    let node = p.copy(alloc)?;
+    let links = p.copy(alloc)?;
+    Ok(both(alloc, Item::NodeOf(node), Item::LinksOf(links))?)
+}
+
+/// What stands at a path, the bytes of the file, and how many paths it has.
+fn file_reads(alloc: Global, p: &Path) -> Result<Vec<Item>, OutOfMemory>
+    ensures { IfOk result (λ v. v.items ≡ what.file_reads p.now) }
+{
+    let source = source_reads(alloc, p)?;
+    let links = p.copy(alloc)?;
+    let links = only(alloc, Item::LinksOf(links))?;
+    joined_items(source, links)
+}
+
 /// What a new path needs.
 fn target_reads(alloc: Global, p: &Path) -> Result<Vec<Item>, OutOfMemory>
     ensures { IfOk result (λ v. v.items ≡ what.target_reads p.now) }
@@ -105,6 +125,15 @@ fn source_and_target(alloc: Global, p: &Path, q: &Path) -> Result<Vec<Item>, Out
     let source = source_reads(alloc, p)?;
     let target = target_reads(alloc, q)?;
     joined_items(source, target)
+}
+
+/// What a call needs that moves a file from one path to another.
+fn file_and_target(alloc: Global, p: &Path, q: &Path) -> Result<Vec<Item>, OutOfMemory>
+    ensures { IfOk result (λ v. v.items ≡ what.file_reads p.now ++ what.target_reads q.now) }
+{
+    let file = file_reads(alloc, p)?;
+    let target = target_reads(alloc, q)?;
+    joined_items(file, target)
 }
 
 /// What changes where a directory comes or goes.
@@ -166,6 +195,25 @@ impl Workspace {
         Ok(self.tree.bodies_at(&handle.path)?)
     }
 
+    /// What changes where a file loses a path: how many it has, by each of them.
+    fn unlink_changes(&self, p: &Path) -> Result<Vec<Item>, OutOfMemory>
+        ensures { IfOk result (λ v. v.items ≡ what.file_changes p.now ++ links_of (paths_at self.now.tree p.now)) }
+    {
+        let file = file_changes(self.alloc, p)?;
+        let links = self.tree.links_at(p)?;
+        joined_items(file, links)
+    }
+
+    /// What changes where a file gets a path more: how many it has, by each of them.
+    fn link_changes(&self, p: &Path, q: &Path) -> Result<Vec<Item>, OutOfMemory>
+        ensures { IfOk result (λ v. v.items ≡
+            what.file_changes q.now ++ links_of (with_path (paths_at self.now.tree p.now) q.now)) }
+    {
+        let file = file_changes(self.alloc, q)?;
+        let links = self.tree.links_with(p, q)?;
+        joined_items(file, links)
+    }
+
     /// What a seek reads: nothing, but where it leads to the end of the file.
     fn seek_reads(&self, f: u8, place: Seek) -> Result<Vec<Item>, OutOfMemory>
         ensures { IfOk result (λ v. v.items ≡ seek_reads (session_in self.now) f place) }
@@ -187,10 +235,11 @@ impl Workspace {
             Op::Mkdir(p) => target_reads(alloc, p),
             Op::Rmdir(p) => folder_reads(alloc, p),
             Op::Create(p) => target_reads(alloc, p),
-            Op::Unlink(p) => node_read(alloc, p),
-            Op::Rename(p, q) => source_and_target(alloc, p, q),
+            Op::Unlink(p) => unlink_reads(alloc, p),
+            Op::Rename(p, q) => file_and_target(alloc, p, q),
+            Op::Link(p, q) => file_and_target(alloc, p, q),
             Op::List(p) => folder_reads(alloc, p),
-            Op::Stat(p) => source_reads(alloc, p),
+            Op::Stat(p) => file_reads(alloc, p),
             Op::Open(_, p) => node_read(alloc, p),
             Op::Close(_) => Ok(Vec::new(alloc)),
             Op::Seek(f, place) => self.seek_reads(*f, *place),
@@ -219,8 +268,9 @@ impl Workspace {
             Op::Mkdir(p) => folder_changes(alloc, p),
             Op::Rmdir(p) => folder_changes(alloc, p),
             Op::Create(p) => file_changes(alloc, p),
-            Op::Unlink(p) => file_changes(alloc, p),
+            Op::Unlink(p) => self.unlink_changes(p),
             Op::Rename(p, q) => move_changes(alloc, p, q),
+            Op::Link(p, q) => self.link_changes(p, q),
             Op::List(_) => Ok(Vec::new(alloc)),
             Op::Stat(_) => Ok(Vec::new(alloc)),
             Op::Open(_, _) => Ok(Vec::new(alloc)),

@@ -1,9 +1,11 @@
 use Rattle.std.proofs.Common.{◌∙◌}
-use Rattle.wtf_machine.proofs.FileWays.{bodies-kept, bodies-none}
+use Rattle.wtf_model.specs.declared.item.Item.TheVariants.{BodyOf}
+use Rattle.wtf_machine.proofs.FileWays.{items-kept, items-none}
 use Rattle.wtf_machine.proofs.path_map.PathMap.bodies_at.Goals as goal
 
 pub returns-in_ok-bodies-in-Some : goal.returns-in_ok-bodies-in-Some
-returns-in_ok-bodies-in-Some c = c.in_ok-bodies-in-Some.ensures ∙ bodies-kept c.args.self.now c.args.path.now _ _ _ c.deref.ensures c.in-Some.ensures.some
+returns-in_ok-bodies-in-Some c = c.in_ok-bodies-in-Some.ensures
+    ∙ items-kept (λ q. BodyOf q) c.args.self.now c.args.path.now _ _ _ c.deref.ensures c.in-Some.ensures.some
 
 pub returns-in-None : goal.returns-in-None
-returns-in-None c = c.new.ensures.items ∙ bodies-none c.args.self.now c.args.path.now c.in-None.ensures.none
+returns-in-None c = c.new.ensures.items ∙ items-none (λ q. BodyOf q) c.args.self.now c.args.path.now c.in-None.ensures.none

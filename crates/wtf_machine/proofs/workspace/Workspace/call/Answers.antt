@@ -16,6 +16,9 @@ returns-in-Unlink c = at_cap c.unlink.result c.args.cap _ _ c.args.self.now c.un
 pub returns-in-Rename : goal.returns-in-Rename
 returns-in-Rename c = at_cap c.rename.result c.args.cap _ _ c.args.self.now c.rename.new.self c.in-Rename.is c.rename.ensures
 
+pub returns-in-Link : goal.returns-in-Link
+returns-in-Link c = at_cap c.link.result c.args.cap _ _ c.args.self.now c.link.new.self c.in-Link.is c.link.ensures
+
 pub returns-in-List : goal.returns-in-List
 returns-in-List c = at_cap c.list.result c.args.cap _ _ c.args.self.now c.args.self.now c.in-List.is c.list.ensures
 
