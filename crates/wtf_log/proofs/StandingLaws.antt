@@ -1,12 +1,17 @@
 -- Laws of logged calls that stand for calls.
-use Rattle.std.proofs.Common.{◌≡◌, ℕ, List, [], ◌∷◌, ◌++◌, length, zero, suc, Some, IfSome, Option, None, refl, ap, subst, slice_get}
+use Rattle.std.proofs.Common.{◌≡◌, ℕ, List, [], ◌∷◌, ◌++◌, length, zero, suc, Some, IfSome, Option, None, refl, sym, ap, subst, slice_get}
+use Rattle.std.proofs.Common.{◌≤◌}
+use Rattle.std.proofs.lemmas.List.Elements.{All-nil, All-cons, All-head, All-tail}
+use Rattle.std.specs.List.{All}
 use Rattle.std.specs.Option.{option_and_then}
 use Rattle.wtf_base.specs.declared.kept.Kept.{Kept}
 use Rattle.wtf_base.specs.declared.slice.Slice.{Slice}
 use Rattle.wtf_model.specs.declared.op.Op.{Op}
 use Rattle.wtf_model.specs.declared.op.Op.TheVariants as op
+use Rattle.wtf_model.specs.declared.limits.TheConstants.{MAX_WRITTEN}
+use Rattle.wtf_model.specs.Form.{IsData, IsKeptData, IsFormOp}
 use Rattle.wtf_log.specs.Calls.{own_of}
-use Rattle.wtf_log.specs.Standing.{IsGiven, OpStandsFor, OpsStandFor}
+use Rattle.wtf_log.specs.Standing.{KeptStandsFor, IsGiven, OpStandsFor, OpsStandFor}
 
 -- a fact of a slice that is kept gives another
 if_some_weaker : (P Q : Slice → Type 0) (o : Option Slice) → ((s : Slice) → o ≡ Some s → P s → Q s) → IfSome o P → IfSome o Q
@@ -79,3 +84,22 @@ pub OpsStandFor-at : (P : Slice → List ℕ → Type 0) (logged : List (Op Kept
 OpsStandFor-at P logged ops k o p s is other =
     let there = OpsStandFor-get P logged ops k o s is in
     let same : there.0 ≡ p = cc in subst (λ x. OpStandsFor P o x) same there.1.1
+
+-- bytes for which what is kept stands are as many
+given_data : (P : Slice → List ℕ → Type 0) (kept : Kept) (bytes : List ℕ) → KeptStandsFor P kept bytes → IsKeptData kept → IsData bytes
+given_data P kept bytes s most = subst (λ n. n ≤ MAX_WRITTEN) s.len most
+
+-- so calls for which logged calls in form stand are in form
+OpStandsFor-form : (P : Slice → List ℕ → Type 0) (o : Op Kept) (p : Op (List ℕ)) → IsFormOp IsKeptData o → OpStandsFor P o p → IsFormOp IsData p
+OpStandsFor-form P (op.Write h kept) p form s = subst (λ q. IsFormOp IsData q) (sym s.is) (form.0, given_data P kept s.bytes s.stands form.1)
+OpStandsFor-form P (op.Append h kept) p form s = subst (λ q. IsFormOp IsData q) (sym s.is) (form.0, given_data P kept s.bytes s.stands form.1)
+OpStandsFor-form P o p form s = subst (λ q. IsFormOp IsData q) (sym s) form
+
+pub OpsStandFor-form : (P : Slice → List ℕ → Type 0) (logged : List (Op Kept)) (ops : List (Op (List ℕ))) → All (IsFormOp IsKeptData) logged →
+    OpsStandFor P logged ops → All (IsFormOp IsData) ops
+OpsStandFor-form P [] [] form s = All-nil (IsFormOp IsData)
+OpsStandFor-form P (o ∷ logged) (p ∷ ops) form s =
+    All-cons (IsFormOp IsData) p ops (OpStandsFor-form P o p (All-head (IsFormOp IsKeptData) o logged form) s.0)
+    (OpsStandFor-form P logged ops (All-tail (IsFormOp IsKeptData) o logged form) s.1)
+OpsStandFor-form P [] (p ∷ ops) form s = absurd s
+OpsStandFor-form P (o ∷ logged) [] form s = absurd s

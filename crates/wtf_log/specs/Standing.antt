@@ -25,6 +25,7 @@ OpStandsFor holds (op.Rmdir p) o = o ≡ op.Rmdir p
 OpStandsFor holds (op.Create p) o = o ≡ op.Create p
 OpStandsFor holds (op.Unlink p) o = o ≡ op.Unlink p
 OpStandsFor holds (op.Rename p q) o = o ≡ op.Rename p q
+OpStandsFor holds (op.Link p q) o = o ≡ op.Link p q
 OpStandsFor holds (op.List p) o = o ≡ op.List p
 OpStandsFor holds (op.Stat p) o = o ≡ op.Stat p
 OpStandsFor holds (op.Open h p) o = o ≡ op.Open h p

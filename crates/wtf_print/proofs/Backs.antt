@@ -1,5 +1,6 @@
 -- The text of an answer in form says that answer.
-use Rattle.std.proofs.Common.{◌≡◌, ℕ, ◌-◌, ◌^◌, ◌<◌, ◌≤◌, Bool, true, false, not, nat_le, List, [], ◌∷◌, ◌++◌, codes, decimal, refl, sym, ap, ◌∙◌, subst, arith, map, append_assoc, Option, Some, None, Result, Ok, Err}
+use Rattle.std.proofs.Common.{◌≡◌, ℕ, ◌-◌, ◌^◌, ◌<◌, ◌≤◌, Bool, true, false, not, nat_le, List, [], ◌∷◌, ◌++◌, codes, decimal, refl, sym, ap, ◌∙◌, subst}
+use Rattle.std.proofs.Common.{arith, map, append_assoc, append-nil, leb-false, if◌then◌else◌, Option, Some, None, Result, Ok, Err}
 use Rattle.std.specs.Prelude.{All}
 use Rattle.std.specs.List.{list_all}
 use Rattle.std.specs.Bool.{MatchBool}
@@ -23,10 +24,12 @@ use Rattle.wtf_model.specs.declared.answer.Answer.{Answer, Aborted'}
 use Rattle.wtf_model.specs.declared.answer.Answer.TheVariants as answer
 use Rattle.wtf_model.specs.Same.{AreSame}
 use Rattle.wtf_model.specs.Steps.{is_call_refusal, IsLogged}
-use Rattle.wtf_print.specs.Texts.{word_text, kind_text, holder_text, text_of}
+use Rattle.wtf_print.specs.Texts.{word_text, kind_text, holder_text, links_text, text_of}
 use Rattle.wtf_print.specs.Forms.{IsRow, IsHolder, IsKind, IsPlain, IsWritable, GivesBack}
 use Rattle.wtf_print.specs.Pieces.{◌>>=◌, only_if, number_word, numbers_of, hex_decoded, data_word, holder_of, name_of, row_of, each_of}
-use Rattle.wtf_print.specs.Reading.{call_word_of, other_word_of, word_of, kind_of, path_kind_of, bad_of, fault_of, call_answer_of, scanning_of, scan_answer_of, wrong_answer_of, plain_answer_of, Meant, aborted_of, said_by, meant_of, meant_by, SaysMeant, ReadsAnswer}
+use Rattle.wtf_print.specs.Reading.{call_word_of, other_word_of, word_of, kind_of, path_kind_of, bad_of, fault_of, links_of, file_of, call_answer_of}
+use Rattle.wtf_print.specs.Reading.{scanning_of, scan_answer_of, wrong_answer_of, plain_answer_of, Meant, aborted_of, said_by, meant_of, meant_by, SaysMeant}
+use Rattle.wtf_print.specs.Reading.{ReadsAnswer}
 use Rattle.wtf_print.specs.declared.error.TextError.{TextError}
 use Rattle.wtf_print.specs.declared.error.TextError.TheVariants as text_error
 use Rattle.wtf_print.proofs.Plain.{plain-same}
@@ -230,6 +233,37 @@ refusal_logged : (t : Bool) → MatchBool t (Unit {0}) ⊥ → t ≡ true
 refusal_logged true h = refl
 refusal_logged false h = absurd h
 
+-- the words behind a file's length
+links_words : ℕ → List (List ℕ)
+links_words n = if nat_le 2 n then codes "links" ∷ decimal n ∷ [] else []
+
+file-words : (n links : ℕ) → n < 2 ^ 64 → links < 2 ^ 64 → words_of (decimal n ++ links_text links) ≡ decimal n ∷ links_words links
+unfolding links_text links_words
+file-words n links h k = by_count (nat_le 2 links)
+  where
+    by_count : (b : Bool) → words_of (decimal n ++ (if b then codes " links " ++ decimal links else []))
+        ≡ decimal n ∷ (if b then codes "links" ∷ decimal links ∷ [] else [])
+    by_count true =
+        first-word (decimal n) (codes "links " ++ decimal links) (number-no_space n h)
+        ∙ ap (λ (ws : List (List ℕ)). decimal n ∷ ws) (keyed (codes "links ") (codes "links") (λ l. refl) (decimal links) (decimal links ∷ []) (number links k))
+    by_count false = ap words_of (append-nil (decimal n)) ∙ number n h
+
+links-read : (n : ℕ) → 1 ≤ n → n < 2 ^ 64 → links_of (links_words n) ≡ Some n
+unfolding links_of links_words
+links-read n some h = by_count (nat_le 2 n) refl
+  where
+    by_count : (b : Bool) → nat_le 2 n ≡ b → links_of (if b then codes "links" ∷ decimal n ∷ [] else []) ≡ Some n
+    by_count true e =
+        ap (λ (o : Option ℕ). o >>= λ c. only_if (nat_le 2 c) >>= λ _. Some c) (one_number (2 ^ 64 - 1) n h (omega arith))
+        ∙ ap (λ (t : Bool). only_if t >>= λ _. Some n) e
+    by_count false e = let fewer = leb-false 2 n e in ap Some (omega arith)
+
+file-read : (n links : ℕ) → n < 2 ^ 64 → 1 ≤ links → links < 2 ^ 64 → file_of (decimal n ∷ links_words links) ≡ Some (answer.File n links)
+unfolding file_of
+file-read n links h some k =
+    ap (λ (o : Option ℕ). o >>= λ len. links_of (links_words links) >>= λ c. Some (answer.File len c)) (number-spelled (2 ^ 64 - 1) n h (omega arith))
+    ∙ ap (λ (o : Option ℕ). o >>= λ c. Some (answer.File n c)) (links-read links some k)
+
 -- the answers of a call
 call-said : (a : Answer) → IsLogged a → IsPlain a → IsCallText a
 unfolding text_of call_answer_of
@@ -252,11 +286,11 @@ call-said (answer.Len n) logged h = record {
   words = keyed (codes "len ") (codes "len") (λ l. refl) (decimal n) (decimal n ∷ []) (number n h);
   read = counted answer.Len (2 ^ 64 - 1) n h (omega arith);
 }
-call-said (answer.File n) logged h = record {
+call-said (answer.File n links) logged h = record {
   word = codes "file";
-  args = decimal n ∷ [];
-  words = keyed (codes "file ") (codes "file") (λ l. refl) (decimal n) (decimal n ∷ []) (number n h);
-  read = counted answer.File (2 ^ 64 - 1) n h (omega arith);
+  args = decimal n ∷ links_words links;
+  words = keyed (codes "file ") (codes "file") (λ l. refl) (decimal n ++ links_text links) (decimal n ∷ links_words links) (file-words n links h.0 h.2);
+  read = file-read n links h.0 h.1 h.2;
 }
 call-said answer.Dir logged h = record { word = codes "dir"; args = []; words = refl; read = refl }
 call-said (answer.Names names) logged h = record {
@@ -368,7 +402,8 @@ plain-said answer.Dir h = let t = call-said answer.Dir tt h in record { words = 
 plain-said (answer.Shown x) h = let t = call-said (answer.Shown x) tt h in record { words = t.word ∷ t.args; is = t.words; read = plainly _ (answer.Shown x) t.read }
 plain-said (answer.At x) h = let t = call-said (answer.At x) tt h in record { words = t.word ∷ t.args; is = t.words; read = plainly _ (answer.At x) t.read }
 plain-said (answer.Len x) h = let t = call-said (answer.Len x) tt h in record { words = t.word ∷ t.args; is = t.words; read = plainly _ (answer.Len x) t.read }
-plain-said (answer.File x) h = let t = call-said (answer.File x) tt h in record { words = t.word ∷ t.args; is = t.words; read = plainly _ (answer.File x) t.read }
+plain-said (answer.File x links) h = let t = call-said (answer.File x links) tt h in
+    record { words = t.word ∷ t.args; is = t.words; read = plainly _ (answer.File x links) t.read }
 plain-said (answer.Names x) h = let t = call-said (answer.Names x) tt h in record { words = t.word ∷ t.args; is = t.words; read = plainly _ (answer.Names x) t.read }
 plain-said (Aborted' i box a) h = absurd h
 

@@ -26,7 +26,9 @@ use Rattle.wtf_model.specs.declared.answer.Answer.TheVariants as answer
 use Rattle.wtf_model.specs.Steps.{is_call_refusal, IsLogged}
 use Rattle.wtf_print.specs.Forms.{IsRow, IsHolder, IsKind, IsPlain, IsWritable}
 use Rattle.wtf_print.specs.Pieces.{◌>>=◌, only_if, none_of, one_of, two_of, number_word, numbers_of, hex_decoded, data_word, holder_by, holder_of, is_name_byte, name_of, path_unless, path_of, cut_last, file_row_of, row_of, each_of}
-use Rattle.wtf_print.specs.Reading.{call_word_of, word_of, kind_of, path_kind_of, bad_of, fault_of, alone, call_refused_of, refused_of, call_answer_of, scanning_of, scan_answer_of, wrong_answer_of, plain_answer_of, Meant, aborted_of, said_by, meant_of, SaysMeant, ReadsAnswer}
+use Rattle.wtf_print.specs.Reading.{call_word_of, word_of, kind_of, path_kind_of, bad_of, fault_of, alone, call_refused_of, refused_of, links_of, file_of}
+use Rattle.wtf_print.specs.Reading.{call_answer_of, scanning_of, scan_answer_of, wrong_answer_of, plain_answer_of, Meant, aborted_of, said_by, meant_of}
+use Rattle.wtf_print.specs.Reading.{SaysMeant, ReadsAnswer}
 use Rattle.wtf_print.proofs.Plain.{plain-writable}
 
 -- what is made of a value holds to Q, where it does for each value that holds to P
@@ -235,6 +237,24 @@ call_refused_form args = made_of_any IsCallAnswer (one_of args) _ (λ w.
 refused_form : (args : List (List ℕ)) → IfSome (refused_of args) IsPlain
 refused_form args = made_of_any IsPlain (one_of args) _ (λ w. made_of_any IsPlain (word_of w) (λ r. Some (answer.Refused r)) (λ r. tt))
 
+-- how many paths a file has
+abbrev IsCount : ℕ → Type 0
+IsCount n = (1 ≤ n) × (n < 2 ^ 64)
+
+links_form : (args : List (List ℕ)) → IfSome (links_of args) IsCount
+unfolding links_of
+links_form [] = (omega arith, omega arith)
+links_form (w ∷ args) =
+    passed IsCount (bytes_eq w (codes "links")) _ (λ _.
+    made (λ n. n ≤ 2 ^ 64 - 1) IsCount (number_word (2 ^ 64 - 1) args) _ (number_form (2 ^ 64 - 1) args) (λ n fits.
+    passed IsCount (nat_le 2 n) (λ _. Some n) (λ e. let two = leb-true 2 n e in (omega arith, wide n fits))))
+
+file_form : (args : List (List ℕ)) → IfSome (file_of args) IsCallAnswer
+unfolding file_of
+file_form [] = tt
+file_form (w ∷ args) = made (λ n. n ≤ 2 ^ 64 - 1) IsCallAnswer (number_within (2 ^ 64 - 1) w) _ (within (2 ^ 64 - 1) w) (λ n fits.
+    made IsCount IsCallAnswer (links_of args) _ (links_form args) (λ c some. (tt, (wide n fits, some.0, some.1))))
+
 call_answer_form : (w : List ℕ) (args : List (List ℕ)) → IfSome (call_answer_of w args) IsCallAnswer
 unfolding call_answer_of
 call_answer_form w args =
@@ -243,7 +263,7 @@ call_answer_form w args =
     (either IsCallAnswer (bytes_eq w (codes "at")) _ _ (numbered IsCallAnswer (2 ^ 64 - 1) answer.At args (λ n h. (tt, wide n h)))
     (either IsCallAnswer (bytes_eq w (codes "len")) _ _ (numbered IsCallAnswer (2 ^ 64 - 1) answer.Len args (λ n h. (tt, wide n h)))
     (either IsCallAnswer (bytes_eq w (codes "dir")) _ _ (alone_form IsCallAnswer answer.Dir args (tt, tt))
-    (either IsCallAnswer (bytes_eq w (codes "file")) _ _ (numbered IsCallAnswer (2 ^ 64 - 1) answer.File args (λ n h. (tt, wide n h)))
+    (either IsCallAnswer (bytes_eq w (codes "file")) _ _ (file_form args)
     (either IsCallAnswer (bytes_eq w (codes "names")) _ _ (made (All IsName) IsCallAnswer (each_of name_of args) (λ names. Some (answer.Names names)) (each_form IsName name_of name_form args) (λ names are. (tt, are)))
     (either IsCallAnswer (bytes_eq w (codes "refused")) _ None (call_refused_form args)
     tt)))))))

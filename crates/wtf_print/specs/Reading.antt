@@ -115,6 +115,23 @@ call_refused_of args = one_of args >>= λ w. call_word_of w >>= λ r. Some (answ
 abbrev pub refused_of : List (List ℕ) → Option Answer
 refused_of args = one_of args >>= λ w. word_of w >>= λ r. Some (answer.Refused r)
 
+-- `links C`, where a file has two or more paths; one that says nothing of them has one
+unfoldable pub links_of : List (List ℕ) → Option ℕ
+links_of [] = Some 1
+links_of (w ∷ args) = do
+  _ ← only_if (bytes_eq w (codes "links"))
+  links ← number_word (2 ^ 64 - 1) args
+  _ ← only_if (nat_le 2 links)
+  Some links
+
+-- a file: its length, and how many paths it has
+unfoldable pub file_of : List (List ℕ) → Option Answer
+file_of [] = None
+file_of (w ∷ args) = do
+  len ← number_within (2 ^ 64 - 1) w
+  links ← links_of args
+  Some (answer.File len links)
+
 -- the answers of a call
 unfoldable pub call_answer_of : List ℕ → List (List ℕ) → Option Answer
 call_answer_of w args =
@@ -123,7 +140,7 @@ call_answer_of w args =
     else (if bytes_eq w (codes "at") then with_number answer.At args
     else (if bytes_eq w (codes "len") then with_number answer.Len args
     else (if bytes_eq w (codes "dir") then alone answer.Dir args
-    else (if bytes_eq w (codes "file") then with_number answer.File args
+    else (if bytes_eq w (codes "file") then file_of args
     else (if bytes_eq w (codes "names") then (each_of name_of args >>= λ names. Some (answer.Names names))
     else (if bytes_eq w (codes "refused") then call_refused_of args
     else None)))))))

@@ -1,5 +1,5 @@
 -- The one text of each answer, and of the settings. Numbers are decimal without leading zeros, bytes are lower-case hexadecimal digits.
-use Rattle.std.specs.Prelude.{ℕ, List, ◌∷◌, ◌++◌, codes, decimal, Some, None}
+use Rattle.std.specs.Prelude.{ℕ, nat_le, if◌then◌else◌, List, [], ◌∷◌, ◌++◌, codes, decimal, Some, None}
 use Rattle.std.specs.List.{flat_map}
 use Rattle.hex.specs.Hex.{encode_lower}
 use Rattle.wtf_base.specs.declared.settings.Settings.{Settings}
@@ -69,6 +69,10 @@ unfoldable pub holder_text : Holder → List ℕ
 holder_text (holder.Client c) = codes "c" ++ decimal c
 holder_text (holder.Job j) = codes "j" ++ decimal j
 
+-- how many paths a file has, where it has more than one
+unfoldable pub links_text : ℕ → List ℕ
+links_text n = if nat_le 2 n then codes " links " ++ decimal n else []
+
 unfoldable pub text_of : Answer → List ℕ
 text_of answer.Okay = codes "ok"
 text_of (answer.Begun n) = codes "begun " ++ decimal n
@@ -76,7 +80,7 @@ text_of (answer.Shown bytes) = codes "data x:" ++ encode_lower bytes
 text_of (answer.At n) = codes "at " ++ decimal n
 text_of (answer.Len n) = codes "len " ++ decimal n
 text_of answer.Dir = codes "dir"
-text_of (answer.File n) = codes "file " ++ decimal n
+text_of (answer.File n links) = codes "file " ++ decimal n ++ links_text links
 text_of (answer.Names names) = codes "names" ++ flat_map name_text names
 text_of (answer.Committed n) = codes "committed " ++ decimal n
 text_of (answer.Retry base now) = codes "retry " ++ decimal base ++ codes " " ++ decimal now

@@ -3,7 +3,7 @@
 ghost use Rattle.std.specs.Prelude.{◌-◌, ◌^◌};
 ghost use Rattle.wtf_lex.specs.Words.{words_behind};
 ghost use Rattle.wtf_print.specs.Pieces.{ReadsAs, number_word};
-ghost use Rattle.wtf_print.specs.Reading.{path_kind_of, bad_of, fault_of, alone, call_refused_of, refused_of, call_answer_of, scanning_of, scan_answer_of, wrong_answer_of, plain_answer_of};
+ghost use Rattle.wtf_print.specs.Reading.{path_kind_of, bad_of, fault_of, alone, call_refused_of, refused_of, links_of, file_of, call_answer_of, scanning_of, scan_answer_of, wrong_answer_of, plain_answer_of};
 
 use crate::TextError;
 use crate::parts::{
@@ -11,7 +11,7 @@ use crate::parts::{
 };
 use crate::refusals::{call_word_of, kind_of, word_of};
 use std::alloc::Global;
-use wtf_lex::{is_word, next_word};
+use wtf_lex::{is_word, next_word, number_within};
 use wtf_model::{Answer, Kind};
 
 /// `path 1` to `path 6`, by the words behind the first.
@@ -114,6 +114,37 @@ fn refused_of(args: &[u8]) -> Result<Answer, TextError>
     Ok(Answer::Refused(refusal))
 }
 
+/// `links C`, where a file has two or more paths. One that says nothing of them has one.
+#[tactic(auto, unfolding(crate::specs::Reading::links_of))]
+fn links_of(args: &[u8]) -> Result<u64, TextError>
+    ensures { ReadsAs result (links_of (words_behind args.now)) }
+{
+    let Some((word, args)) = next_word(args) else {
+        return Ok(1);
+    };
+    if !is_word(word, b"links") {
+        return Err(TextError::NotAnAnswer);
+    }
+    let links = number(args)?;
+    if links < 2 {
+        return Err(TextError::NotAnAnswer);
+    }
+    Ok(links)
+}
+
+/// A file: its length, and how many paths it has.
+#[tactic(auto, unfolding(crate::specs::Reading::file_of))]
+fn file_of(args: &[u8]) -> Result<Answer, TextError>
+    ensures { ReadsAs result (file_of (words_behind args.now)) }
+{
+    let Some((word, args)) = next_word(args) else {
+        return Err(TextError::NotAnAnswer);
+    };
+    let len = number_within(u64::MAX, word).ok_or(TextError::NotAnAnswer)?;
+    let links = links_of(args)?;
+    Ok(Answer::File { len, links })
+}
+
 /// The answers of a call, by the first word and those behind it.
 #[tactic(auto, unfolding(crate::specs::Reading::call_answer_of))]
 pub(crate) fn call_answer_of(alloc: Global, word: &[u8], args: &[u8]) -> Result<Answer, TextError>
@@ -135,8 +166,7 @@ pub(crate) fn call_answer_of(alloc: Global, word: &[u8], args: &[u8]) -> Result<
         return alone(Answer::Dir, args);
     }
     if is_word(word, b"file") {
-        let len = number(args)?;
-        return Ok(Answer::File { len });
+        return file_of(args);
     }
     if is_word(word, b"names") {
         return Ok(Answer::Names(names_of(alloc, args)?));

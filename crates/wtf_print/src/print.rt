@@ -3,7 +3,7 @@
 ghost use Rattle.std.specs.Prelude.{◌≡◌, ◌++◌, ◌∷◌, [], decimal, OnOk};
 ghost use Rattle.std.specs.List.{flat_map};
 ghost use Rattle.hex.specs.Hex.{encode_lower};
-ghost use Rattle.wtf_print.specs.Texts.{name_text, word_text, kind_text, holder_text, row_text, text_of, settings_text};
+ghost use Rattle.wtf_print.specs.Texts.{name_text, word_text, kind_text, holder_text, row_text, links_text, text_of, settings_text};
 ghost use Rattle.wtf_print.specs.Forms.{IsWritable};
 ghost use Rattle.wtf_model.specs.declared.answer.Answer.{Answer};
 ghost use Rattle.wtf_model.specs.Same.{AreSame};
@@ -171,6 +171,17 @@ fn push_with_numbers(out: &mut Vec<u8>, text: &[u8], a: u64, b: u64) -> Result<(
     push_with_number(out, b" ", b)
 }
 
+/// Appends how many paths a file has, where it has more than one.
+#[tactic(auto, unfolding(crate::specs::Texts::links_text))]
+fn push_links(out: &mut Vec<u8>, links: u64) -> Result<(), OutOfMemory>
+    ensures { OnOk result (out.new.items ≡ out.old.items ++ links_text links) }
+{
+    if links < 2 {
+        return Ok(());
+    }
+    push_with_number(out, b" links ", links)
+}
+
 /// Appends the text of an answer.
 #[tactic(auto, unfolding(crate::specs::Texts::text_of))]
 fn push_answer(answer: &Answer, out: &mut Vec<u8>) -> Result<(), OutOfMemory>
@@ -186,7 +197,10 @@ fn push_answer(answer: &Answer, out: &mut Vec<u8>) -> Result<(), OutOfMemory>
         Answer::At(n) => push_with_number(out, b"at ", *n),
         Answer::Len(n) => push_with_number(out, b"len ", *n),
         Answer::Dir => push_text(out, b"dir"),
-        Answer::File { len } => push_with_number(out, b"file ", *len),
+        Answer::File { len, links } => {
+            push_with_number(out, b"file ", *len)?;
+            push_links(out, *links)
+        }
         Answer::Names(names) => {
             push_text(out, b"names")?;
             push_names(out, names.as_slice())

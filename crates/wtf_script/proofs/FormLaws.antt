@@ -21,8 +21,9 @@ use Rattle.wtf_model.specs.Form.{IsHandle, IsSlice, IsJob, IsNumber, IsData, IsF
 use Rattle.wtf_lex.specs.Numbers.{number_within, value_from, is_numeral}
 use Rattle.wtf_script.specs.Counts.{none_of, one_of, two_of, three_of, four_of, two_and_maybe_one, one_and_many}
 use Rattle.wtf_script.specs.declared.error.LineError.{LineError}
+use Rattle.wtf_lex.specs.Words.{words_of}
 use Rattle.wtf_script.specs.Arguments.{AnswersAs, ◌>>=◌, demand, or_wrong, number_of_word, number_from_to, label_of, client_of, handle_of, slice_of, job_of, path_unless, path_of, paths_of, data_form, data_of}
-use Rattle.wtf_script.specs.Grammar.{path_alone, two_paths, handle_alone, handle_number, handle_data, handle_slice, open_call, offset_of, place_of, seek_call, read_call, yank_call, peek_call, cut_call, concat_call, slice_call, bytes_call, handle_call, paths_call, path_call, alone, verb_of, job_kind_of, plan_event, job_alone, number_alone, piece_event, event_alone, system_event, job_event, event_asked}
+use Rattle.wtf_script.specs.Grammar.{path_alone, two_paths, handle_alone, handle_number, handle_data, handle_slice, open_call, offset_of, place_of, seek_call, read_call, yank_call, peek_call, cut_call, concat_call, slice_call, bytes_call, handle_call, paths_call, path_call, alone, verb_of, job_kind_of, plan_event, job_alone, number_alone, piece_event, event_alone, system_event, job_event, event_asked, words_event, spelled, event_of}
 
 abbrev Form : Op (List ℕ) → Type 0
 Form o = IsFormOp IsData o
@@ -265,9 +266,10 @@ paths_call_form : (word : List ℕ) (args : List (List ℕ)) → IfOk (paths_cal
 unfolding paths_call
 paths_call_form word args =
     either Form (bytes_eq word (codes "rename")) _ _ (made (λ w. IsPath w.0 × IsPath w.1) Form (two_paths args) (λ w. Ok (op.Rename w.0 w.1)) (two_paths_form args) (λ w is. (is.0, is.1)))
+    (either Form (bytes_eq word (codes "link")) _ _ (made (λ w. IsPath w.0 × IsPath w.1) Form (two_paths args) (λ w. Ok (op.Link w.0 w.1)) (two_paths_form args) (λ w is. (is.0, is.1)))
     (either Form (bytes_eq word (codes "copy")) _ _ (made (λ w. IsPath w.0 × IsPath w.1) Form (two_paths args) (λ w. Ok (op.Copy w.0 w.1)) (two_paths_form args) (λ w is. (is.0, is.1)))
     (either Form (bytes_eq word (codes "concat")) _ (handle_call word args) (concat_form args)
-    (handle_call_form word args)))
+    (handle_call_form word args))))
 
 path_call_form : (word : List ℕ) (args : List (List ℕ)) → IfOk (path_call word args) Form
 unfolding path_call
@@ -348,6 +350,16 @@ asked_form actor (word ∷ args) =
     either IsFormEvent (bytes_eq actor (codes "sys")) (job_event word args) _ (job_event_form word args)
     (made (λ c. c < MAX_CLIENTS) IsFormEvent (client_of actor) _ (client_form actor) (λ c c_is.
     made IsFormVerb IsFormEvent (verb_of word args) (λ v. Ok (event.Client c v)) (verb_form word args) (λ v is. (c_is, is))))
+
+words_event_form : (words : List (List ℕ)) → IfOk (words_event words) IsFormEvent
+unfolding words_event
+words_event_form [] = tt
+words_event_form (actor ∷ behind) = asked_form actor behind
+
+-- the event of each line is in form
+pub event_form : (line : List ℕ) → IfOk (event_of line) IsFormEvent
+unfolding event_of
+event_form line = made_of_any IsFormEvent (spelled line) (λ _. words_event (words_of line)) (λ _. words_event_form (words_of line))
 
 -- what was answered to such a line is in form too
 pub given_form : (r : Result Event LineError) (meant : Result Event Kind) → AnswersAs r meant → IfOk meant IsFormEvent → IfOk r IsFormEvent

@@ -171,9 +171,10 @@ handle_call word args =
 unfoldable pub paths_call : List ℕ → List (List ℕ) → Result (Op (List ℕ)) Kind
 paths_call word args =
     if bytes_eq word (codes "rename") then (two_paths args >>= λ w. Ok (op.Rename w.0 w.1))
+    else (if bytes_eq word (codes "link") then (two_paths args >>= λ w. Ok (op.Link w.0 w.1))
     else (if bytes_eq word (codes "copy") then (two_paths args >>= λ w. Ok (op.Copy w.0 w.1))
     else (if bytes_eq word (codes "concat") then concat_call args
-    else handle_call word args))
+    else handle_call word args)))
 
 -- the calls on one path
 unfoldable pub path_call : List ℕ → List (List ℕ) → Result (Op (List ℕ)) Kind

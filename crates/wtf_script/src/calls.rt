@@ -272,6 +272,10 @@ fn paths_call(alloc: Global, word: &[u8], args: &[u8]) -> Result<Op<Bytes>, Line
         let (p, q) = two_paths(alloc, args)?;
         return Ok(Op::Rename(p, q));
     }
+    if is_word(word, b"link") {
+        let (p, q) = two_paths(alloc, args)?;
+        return Ok(Op::Link(p, q));
+    }
     if is_word(word, b"copy") {
         let (p, q) = two_paths(alloc, args)?;
         return Ok(Op::Copy(p, q));
