@@ -10,7 +10,7 @@ use Rattle.std.specs.declared.cmp.Ordering.TheVariants.{Less, Equal, Greater}
 use Rattle.wtf_base.specs.declared.ids.InodeId.{InodeId}
 use Rattle.wtf_kv.specs.Edits.{is_between}
 use Rattle.wtf_values.specs.declared.key.Key.{Key}
-use Rattle.wtf_values.specs.declared.key.Key.TheVariants.{Path, Dir, Inode, Region}
+use Rattle.wtf_values.specs.declared.key.Key.TheVariants.{Path, Dir, Inode, Region, Links}
 use Rattle.wtf_values.specs.contracts.key.KeyOrd.TheImpl.Laws.{total-law}
 use Rattle.wtf_values.specs.Keys.{key_cmp, inode_cmp, is_region_within, same_inode, same_key}
 
@@ -58,6 +58,7 @@ pub between_regions : (i : InodeId) (from to : ℕ) (q : Key) → is_between key
 between_regions i from to (Path p) = refl
 between_regions i from to (Dir p) = refl
 between_regions i from to (Inode j) = refl
+between_regions i from to (Links j) = refl
 between_regions i from to (Region j r) =
     ap (λ o. is_le (ordering_then (inode_cmp i j) (nat_cmp from r)) && is_le (ordering_then o (nat_cmp r to))) (inode_flipped i j) ∙ both_le (inode_cmp i j) from r to
 
@@ -72,6 +73,7 @@ region_in : (i : InodeId) (from to : ℕ) (q : Key) → is_region_within i from 
 region_in i from to (Path p) h = absurd (cc)
 region_in i from to (Dir p) h = absurd (cc)
 region_in i from to (Inode j) h = absurd (cc)
+region_in i from to (Links j) h = absurd (cc)
 region_in i from to (Region j r) h =
     let parts = and_parts (is_eq (inode_cmp i j)) (nat_le from r && nat_le r to) h in
     let ends = and_parts (nat_le from r) (nat_le r to) parts.1 in

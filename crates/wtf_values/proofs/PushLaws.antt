@@ -10,9 +10,10 @@ use Rattle.wtf_kv.specs.Staging.{run_made, run_fits}
 use Rattle.wtf_overlay.specs.declared.part.Entry.{Entry}
 use Rattle.wtf_values.specs.declared.region.RegionValue.{RegionValue}
 use Rattle.wtf_values.specs.declared.value.Value.{Value}
-use Rattle.wtf_values.specs.declared.value.Value.TheVariants.{Node, Names, Last, Region}
+use Rattle.wtf_values.specs.declared.value.Value.TheVariants.{Node, Names, Last, Region, Count}
 use Rattle.wtf_values.specs.declared.value.Delta.{Delta}
-use Rattle.wtf_values.specs.declared.value.Delta.TheVariants.{Push, PushRel, Clip, ZeroWithin, RaiseLast, SetLast, DirAdd, DirDel, Put, Remove}
+use Rattle.wtf_values.specs.declared.value.Delta.TheVariants.{Push, PushRel, Clip, ZeroWithin, RaiseLast, SetLast, DirAdd, DirDel, LinkAdd, LinkSub, Put}
+use Rattle.wtf_values.specs.declared.value.Delta.TheVariants.{Remove}
 use Rattle.wtf_values.specs.Outcomes.{outcome_of}
 use Rattle.wtf_values.specs.Pushes.{are_pushes, entries_of, laid_all}
 use Rattle.wtf_values.specs.Regions.{emptied, pushed, pushed_all, end_over}
@@ -42,6 +43,8 @@ module _ {K : Type 0} where
   push_by p none more (change.Delta key (SetLast n) ∷ cs) all = absurd (false≢true all)
   push_by p none more (change.Delta key (DirAdd name) ∷ cs) all = absurd (false≢true all)
   push_by p none more (change.Delta key (DirDel name) ∷ cs) all = absurd (false≢true all)
+  push_by p none more (change.Delta key LinkAdd ∷ cs) all = absurd (false≢true all)
+  push_by p none more (change.Delta key LinkSub ∷ cs) all = absurd (false≢true all)
   push_by p none more (change.Delta key (Put v) ∷ cs) all = absurd (false≢true all)
   push_by p none more (change.Delta key Remove ∷ cs) all = absurd (false≢true all)
   push_by p none more (change.Cut from to ∷ cs) all = absurd (false≢true all)
@@ -52,6 +55,7 @@ module _ {K : Type 0} where
   fits_first key e cs rest (Some (Region v)) = rest (Some (Region (pushed (Some v) e)))
   fits_first key e cs rest (Some (Last n)) = rest (Some (Last n))
   fits_first key e cs rest (Some (Names s)) = rest (Some (Names s))
+  fits_first key e cs rest (Some (Count n)) = rest (Some (Count n))
   fits_first key e cs rest (Some (Node n)) = rest (Some (Node n))
 
   pub pushes_fit : (cs : List (Change K Delta)) → are_pushes cs ≡ true → (now : Option Value) → run_fits outcome_of cs now ≡ true
@@ -74,4 +78,5 @@ module _ {K : Type 0} where
   pushes_made cs all some (Some (Region v)) = made_over cs all v
   pushes_made cs all some (Some (Last n)) = made_same (Last n) (λ e. refl) cs all
   pushes_made cs all some (Some (Names s)) = made_same (Names s) (λ e. refl) cs all
+  pushes_made cs all some (Some (Count n)) = made_same (Count n) (λ e. refl) cs all
   pushes_made cs all some (Some (Node n)) = made_same (Node n) (λ e. refl) cs all

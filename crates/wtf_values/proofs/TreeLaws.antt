@@ -25,8 +25,7 @@ below_front k (x ∷ l) m h =
 -- of names that rise, those in front rise
 pub rise_front : (l m : List (List ℕ)) → Rise (l ++ m) → Rise l
 rise_front [] m h = tt
-rise_front (k ∷ l) m h =
-    both_of (below_all name_cmp k (as_entries l)) (is_sorted name_cmp (as_entries l))
+rise_front (k ∷ l) m h = both_of (below_all name_cmp k (as_entries l)) (is_sorted name_cmp (as_entries l))
     (below_front k l m (left_of (below_all name_cmp k (as_entries (l ++ m))) (is_sorted name_cmp (as_entries (l ++ m))) h))
     (rise_front l m (right_of (below_all name_cmp k (as_entries (l ++ m))) (is_sorted name_cmp (as_entries (l ++ m))) h))
 

@@ -9,7 +9,7 @@ use Rattle.std.specs.declared.cmp.Ordering.{Ordering}
 use Rattle.std.specs.declared.cmp.Ordering.TheVariants.{Equal, Less, Greater}
 use Rattle.wtf_base.specs.declared.ids.InodeId.{InodeId}
 use Rattle.wtf_values.specs.declared.key.Key.{Key}
-use Rattle.wtf_values.specs.declared.key.Key.TheVariants.{Path, Dir, Inode, Region}
+use Rattle.wtf_values.specs.declared.key.Key.TheVariants.{Path, Dir, Inode, Region, Links}
 use Rattle.wtf_values.specs.contracts.key.KeyOrd.TheImpl.{ghosts}
 
 -- the order of keys: by kind, then by what they name
@@ -25,6 +25,7 @@ abbrev pub is_region_within : InodeId → ℕ → ℕ → Key → Bool
 is_region_within i from to (Path p) = false
 is_region_within i from to (Dir p) = false
 is_region_within i from to (Inode j) = false
+is_region_within i from to (Links j) = false
 is_region_within i from to (Region j r) = is_eq (inode_cmp i j) && (nat_le from r && nat_le r to)
 
 -- whether a key is a region's
@@ -33,6 +34,7 @@ is_region (Path p) = false
 is_region (Dir p) = false
 is_region (Inode j) = false
 is_region (Region j r) = true
+is_region (Links j) = false
 
 -- the greatest inode there can be
 abbrev pub last_inode : InodeId
@@ -60,14 +62,17 @@ same_key (Path p) (Path q) h = ap Path (same_path p q h)
 same_key (Path p) (Dir q) h = absurd (cc)
 same_key (Path p) (Inode j) h = absurd (cc)
 same_key (Path p) (Region j s) h = absurd (cc)
+same_key (Path p) (Links j) h = absurd (cc)
 same_key (Dir p) (Path q) h = absurd (cc)
 same_key (Dir p) (Dir q) h = ap Dir (same_path p q h)
 same_key (Dir p) (Inode j) h = absurd (cc)
 same_key (Dir p) (Region j s) h = absurd (cc)
+same_key (Dir p) (Links j) h = absurd (cc)
 same_key (Inode i) (Path q) h = absurd (cc)
 same_key (Inode i) (Dir q) h = absurd (cc)
 same_key (Inode i) (Inode j) h = ap Inode (same_inode i j h)
 same_key (Inode i) (Region j s) h = absurd (cc)
+same_key (Inode i) (Links j) h = absurd (cc)
 same_key (Region i r) (Path q) h = absurd (cc)
 same_key (Region i r) (Dir q) h = absurd (cc)
 same_key (Region i r) (Inode j) h = absurd (cc)
@@ -76,3 +81,9 @@ same_key (Region i r) (Region j s) h =
     let inode : i ≡ j = same_inode i j both.0 in
     let region : r ≡ s = exact_unsigned r s both.1 in
     λ k. Region (inode k) (region k)
+same_key (Region i r) (Links j) h = absurd (cc)
+same_key (Links i) (Path q) h = absurd (cc)
+same_key (Links i) (Dir q) h = absurd (cc)
+same_key (Links i) (Inode j) h = absurd (cc)
+same_key (Links i) (Region j s) h = absurd (cc)
+same_key (Links i) (Links j) h = ap Links (same_inode i j h)

@@ -1,4 +1,5 @@
 pub mod Bases
+pub mod KeyOrder
 pub mod Keys
 pub mod Names
 pub mod Regions

@@ -1,13 +1,14 @@
 -- What comes of a change, by the value that a key has.
-use Rattle.std.specs.Prelude.{ℕ, Bool, true, false, max, if◌then◌else◌, Option, None, Some}
+use Rattle.std.specs.Prelude.{ℕ, ◌+◌, ◌-◌, ◌^◌, nat_le, Bool, true, false, min, max, if◌then◌else◌, Option, None, Some}
 use Rattle.wtf_kv.specs.declared.cell.Applied.{Applied}
 use Rattle.wtf_kv.specs.declared.cell.Applied.TheVariants.{Is, Gone, Unfit}
 use Rattle.wtf_values.specs.declared.region.RegionValue.{RegionValue}
 use Rattle.wtf_values.specs.declared.value.Node as node
 use Rattle.wtf_values.specs.declared.value.Value.{Value}
-use Rattle.wtf_values.specs.declared.value.Value.TheVariants.{Node, Names, Last, Region}
+use Rattle.wtf_values.specs.declared.value.Value.TheVariants.{Node, Names, Last, Region, Count}
 use Rattle.wtf_values.specs.declared.value.Delta.{Delta}
-use Rattle.wtf_values.specs.declared.value.Delta.TheVariants.{Push, PushRel, Clip, ZeroWithin, RaiseLast, SetLast, DirAdd, DirDel, Put, Remove}
+use Rattle.wtf_values.specs.declared.value.Delta.TheVariants.{Push, PushRel, Clip, ZeroWithin, RaiseLast, SetLast, DirAdd, DirDel, LinkAdd, LinkSub, Put}
+use Rattle.wtf_values.specs.declared.value.Delta.TheVariants.{Remove}
 use Rattle.wtf_values.specs.Names.{NamesOf, with_name, without_name}
 use Rattle.wtf_values.specs.Regions.{or_empty, pushed, clipped, zeroed, with_pieces, fits_at_end}
 
@@ -43,16 +44,33 @@ outcome_names s (DirAdd name) = Is (Names (with_name s name))
 outcome_names s (DirDel name) = Is (Names (without_name s name))
 outcome_names s _ = Is (Names s)
 
+-- of the number of a file's paths
+abbrev pub outcome_count : ℕ → Delta → Applied Value
+outcome_count n LinkAdd = Is (Count (min (n + 1) (2 ^ 64 - 1)))
+outcome_count n LinkSub = if nat_le n 2 then Gone else Is (Count (n - 1))
+outcome_count n _ = Is (Count n)
+
+-- whether a change adds a path
+abbrev pub adds_link : Delta → Bool
+adds_link LinkAdd = true
+adds_link d = false
+
+-- of a missing value: a region or a number of paths may be made
+abbrev pub outcome_none : Delta → Applied Value
+outcome_none LinkAdd = Is (Count 2)
+outcome_none d = outcome_region None d
+
 -- of what stands at a path, which only stays, is set or goes
 abbrev pub outcome_node : node.Node → Delta → Applied Value
 outcome_node n _ = Is (Node n)
 
 -- of a change that neither sets nor takes out, by the kind of the value
 abbrev pub outcome_kind : Option Value → Delta → Applied Value
-outcome_kind None d = outcome_region None d
+outcome_kind None d = outcome_none d
 outcome_kind (Some (Region v)) d = outcome_region (Some v) d
 outcome_kind (Some (Last n)) d = outcome_last n d
 outcome_kind (Some (Names s)) d = outcome_names s d
+outcome_kind (Some (Count n)) d = outcome_count n d
 outcome_kind (Some (Node n)) d = outcome_node n d
 
 -- of any change

@@ -4,7 +4,7 @@ use Rattle.wtf_kv.specs.declared.changes.Change.{Change}
 use Rattle.wtf_kv.specs.declared.changes.Change.TheVariants as change
 use Rattle.wtf_overlay.specs.declared.part.Entry.{Entry}
 use Rattle.wtf_values.specs.declared.value.Value.{Value}
-use Rattle.wtf_values.specs.declared.value.Value.TheVariants.{Node, Names, Last, Region}
+use Rattle.wtf_values.specs.declared.value.Value.TheVariants.{Node, Names, Last, Region, Count}
 use Rattle.wtf_values.specs.declared.value.Delta.{Delta}
 use Rattle.wtf_values.specs.declared.value.Delta.TheVariants.{Push}
 use Rattle.wtf_values.specs.Regions.{emptied, pushed_all}
@@ -27,5 +27,6 @@ abbrev pub laid_all : Option Value → List Entry → Option Value
 laid_all None es = Some (Region (pushed_all emptied es))
 laid_all (Some (Region v)) es = Some (Region (pushed_all v es))
 laid_all (Some (Last n)) es = Some (Last n)
+laid_all (Some (Count n)) es = Some (Count n)
 laid_all (Some (Names s)) es = Some (Names s)
 laid_all (Some (Node n)) es = Some (Node n)

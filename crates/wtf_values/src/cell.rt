@@ -5,8 +5,8 @@ ghost use Rattle.std.specs.Option.{option_copied};
 ghost use Rattle.wtf_kv.specs.Edits.{value_made, fits};
 ghost use Rattle.wtf_kv.specs.Staging.{run_made, run_fits};
 ghost use Rattle.wtf_kv.specs.declared.cell.Applied.TheVariants.{Is};
-ghost use Rattle.wtf_values.specs.declared.value.Value.TheVariants.{Names, Last, Region};
-ghost use Rattle.wtf_values.specs.Outcomes.{makes_region, outcome_kind, outcome_region, outcome_last, outcome_names, outcome_of};
+ghost use Rattle.wtf_values.specs.declared.value.Value.TheVariants.{Names, Last, Region, Count};
+ghost use Rattle.wtf_values.specs.Outcomes.{makes_region, adds_link, outcome_kind, outcome_none, outcome_region, outcome_last, outcome_names, outcome_count, outcome_of};
 ghost use Rattle.wtf_values.specs.Pushes.{are_pushes, entries_of, laid_all};
 
 use crate::summary::{summarize, summary_after};
@@ -62,6 +62,7 @@ impl Cell for Value {
             (Value::Names(a), Value::Names(b)) => a.is_same(b, looks),
             (Value::Last(a), Value::Last(b)) => a == b,
             (Value::Region(a), Value::Region(b)) => a.is_same(b, looks),
+            (Value::Count(a), Value::Count(b)) => a == b,
             _ => false,
         }
     }
@@ -100,6 +101,7 @@ fn copy_of(value: &Value) -> Result<Value, OutOfMemory>
         Value::Names(names) => Ok(Value::Names(names.copy()?)),
         Value::Last(n) => Ok(Value::Last(*n)),
         Value::Region(region) => Ok(Value::Region(region.copy()?)),
+        Value::Count(n) => Ok(Value::Count(*n)),
     }
 }
 
@@ -119,6 +121,7 @@ fn lay_over(alloc: Global, now: &mut Option<Value>, e: &Entry) -> Result<(), Out
         Some(Value::Node(_)) => Ok(()),
         Some(Value::Names(_)) => Ok(()),
         Some(Value::Last(_)) => Ok(()),
+        Some(Value::Count(_)) => Ok(()),
     }
 }
 
@@ -173,6 +176,7 @@ fn lay_all(alloc: Global, now: &mut Option<Value>, entries: &[Entry]) -> Result<
         Some(Value::Node(_)) => Ok(()),
         Some(Value::Names(_)) => Ok(()),
         Some(Value::Last(_)) => Ok(()),
+        Some(Value::Count(_)) => Ok(()),
     }
 }
 
@@ -218,11 +222,33 @@ fn kind_after(
         Some(Value::Names(names)) => Ok(Some(Value::Names(names_after(names, delta)?))),
         Some(Value::Last(n)) => Ok(Some(Value::Last(last_after(n, delta)))),
         Some(Value::Region(region)) => Ok(Some(Value::Region(region_after(region, delta)?))),
+        Some(Value::Count(n)) => Ok(count_after(n, delta)),
     }
 }
 
 /// What a change makes of a missing value.
 fn none_after(alloc: Global, delta: &Delta) -> Result<Option<Value>, OutOfMemory>
+    requires { fits (outcome_none delta.now) ≡ true }
+    ensures { IfOk result (λ made. made ≡ value_made (outcome_none delta.now) None) }
+{
+    if adds_link(delta) {
+        return Ok(Some(Value::Count(2)));
+    }
+    Ok(region_made(alloc, delta)?)
+}
+
+/// Whether a change adds a path.
+fn adds_link(delta: &Delta) -> bool
+    ensures { result ≡ adds_link delta.now }
+{
+    match delta {
+        Delta::LinkAdd => true,
+        _ => false,
+    }
+}
+
+/// What a change makes of a missing region.
+fn region_made(alloc: Global, delta: &Delta) -> Result<Option<Value>, OutOfMemory>
     requires { fits (outcome_region None delta.now) ≡ true }
     ensures { IfOk result (λ made. made ≡ value_made (outcome_region None delta.now) None) }
 {
@@ -271,6 +297,18 @@ fn last_after(n: u16, delta: &Delta) -> u16
         Delta::RaiseLast(r) => n.max(*r),
         Delta::SetLast(r) => *r,
         _ => n,
+    }
+}
+
+/// What a change makes of the number of a file's paths.
+fn count_after(n: u64, delta: &Delta) -> Option<Value>
+    ensures { result ≡ value_made (outcome_count n delta.now) (Some (Count n)) }
+{
+    match delta {
+        Delta::LinkAdd => Some(Value::Count(n.saturating_add(1))),
+        Delta::LinkSub if n <= 2 => None,
+        Delta::LinkSub => Some(Value::Count(n - 1)),
+        _ => Some(Value::Count(n)),
     }
 }
 

@@ -21,13 +21,15 @@ ghost use Rattle.wtf_values.specs.Names.{NamesOf, has_name, with_name, without_n
 ghost use Rattle.wtf_values.specs.Regions.{clipped, zeroed_in, with_pieces};
 ghost use Rattle.wtf_values.specs.Outcomes.{outcome_of};
 
-/// Paths come before directories, these before inodes, and these before regions. Each kind has an
-/// order of its own.
+/// Paths come before directories, these before inodes, these before regions, and these before the
+/// numbers of paths. Each kind has an order of its own.
 pub fn orders_keys()
     ensures path_dir { (p q : List ℕ) → key_cmp (key.Path p) (key.Dir q) ≡ Less }
     ensures dir_inode { (p : List ℕ) (i : InodeId) → key_cmp (key.Dir p) (key.Inode i) ≡ Less }
     ensures inode_region { (i j : InodeId) (r : ℕ) →
         key_cmp (key.Inode i) (key.Region j r) ≡ Less }
+    ensures region_links { (i j : InodeId) (r : ℕ) →
+        key_cmp (key.Region i r) (key.Links j) ≡ Less }
     ensures paths { (p q : List ℕ) → key_cmp (key.Path p) (key.Path q) ≡ slice_cmp nat_cmp p q }
     ensures dirs { (p q : List ℕ) → key_cmp (key.Dir p) (key.Dir q) ≡ slice_cmp nat_cmp p q }
     ensures inodes { (i j : InodeId) → key_cmp (key.Inode i) (key.Inode j) ≡
@@ -80,6 +82,15 @@ pub fn moves_the_last()
     ensures missing { (r : ℕ) → outcome_of None (delta.RaiseLast r) ≡ Gone }
 {}
 
+/// A file of one path has no number of them. One more makes it 2, and of 2 one less takes it out.
+pub fn counts_paths()
+    ensures first { outcome_of None delta.LinkAdd ≡ Is (value.Count 2) }
+    ensures more { outcome_of (Some (value.Count 2)) delta.LinkAdd ≡ Is (value.Count 3) }
+    ensures fewer { outcome_of (Some (value.Count 3)) delta.LinkSub ≡ Is (value.Count 2) }
+    ensures last { outcome_of (Some (value.Count 2)) delta.LinkSub ≡ Gone }
+    ensures missing { outcome_of None delta.LinkSub ≡ Gone }
+{}
+
 /// A name that is added twice is there once, and one that is taken out leaves the others.
 pub fn changes_names()
     ensures added { (s : NamesOf) (name : List ℕ) → has_name (with_name s name) name ≡ true }
@@ -101,6 +112,8 @@ pub fn leaves_other_kinds()
         outcome_of (Some (value.Region v)) (delta.DirAdd name) ≡ Is (value.Region v) }
     ensures node { (n : node.Node) (end : ℕ) →
         outcome_of (Some (value.Node n)) (delta.Clip end) ≡ Is (value.Node n) }
+    ensures count { (n : ℕ) (e : Entry) →
+        outcome_of (Some (value.Count n)) (delta.Push e) ≡ Is (value.Count n) }
     ensures put { (now : Option holder.Value) (v : holder.Value) →
         outcome_of now (delta.Put v) ≡ Is v }
     ensures removed { (now : Option holder.Value) → outcome_of now delta.Remove ≡ Gone }

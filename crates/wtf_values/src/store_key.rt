@@ -14,6 +14,7 @@ impl StoreKey for Key {
             Key::Dir(path) => Ok(Key::Dir(path.copy(alloc)?)),
             Key::Inode(inode) => Ok(Key::Inode(*inode)),
             Key::Region(inode, region) => Ok(Key::Region(*inode, *region)),
+            Key::Links(inode) => Ok(Key::Links(*inode)),
         }
     }
 

@@ -6,7 +6,7 @@ ghost use Rattle.wtf_overlay.specs.Origin.{pieces_len};
 ghost use Rattle.wtf_values.specs.declared.region.RegionValue.{RegionValue};
 ghost use Rattle.wtf_values.specs.declared.value.Value.{Value};
 ghost use Rattle.wtf_values.specs.declared.value.Value.TheVariants as values;
-ghost use Rattle.wtf_values.specs.Outcomes.{outcome_of, outcome_kind, outcome_region, outcome_last};
+ghost use Rattle.wtf_values.specs.Outcomes.{outcome_of, outcome_kind, outcome_none, outcome_region, outcome_last, outcome_count};
 ghost use Rattle.wtf_values.specs.Summaries.{summary_of};
 
 use crate::{Delta, Pieces, Value};
@@ -20,6 +20,8 @@ pub enum Summary {
     Last(u16),
     /// Where a region ends.
     Region(u32),
+    /// The number of a file's paths.
+    Count(u64),
     /// There is a value of another kind.
     Other,
 }
@@ -31,6 +33,7 @@ pub(crate) fn summarize(value: &Value) -> Summary
     match value {
         Value::Last(n) => Summary::Last(*n),
         Value::Region(v) => Summary::Region(v.end),
+        Value::Count(n) => Summary::Count(*n),
         Value::Names(_) => Summary::Other,
         Value::Node(_) => Summary::Other,
     }
@@ -57,15 +60,17 @@ fn kind_after(before: Summary, delta: &Delta) -> Summary
         Summary::Missing => missing_after(delta),
         Summary::Last(n) => last_after(n, delta),
         Summary::Region(end) => Summary::Region(end_after(end, delta)),
+        Summary::Count(n) => count_after(n, delta),
         Summary::Other => Summary::Other,
     }
 }
 
 /// The summary after a delta of a missing value.
 fn missing_after(delta: &Delta) -> Summary
-    ensures { result ≡ summary_of (value_made (outcome_region None delta.now) None) }
+    ensures { result ≡ summary_of (value_made (outcome_none delta.now) None) }
 {
     match delta {
+        Delta::LinkAdd => Summary::Count(2),
         Delta::Push(e) => Summary::Region(e.end()),
         Delta::PushRel(pieces, size) => match end_with(0, pieces, *size) {
             Some(end) => Summary::Region(end),
@@ -84,6 +89,18 @@ fn last_after(n: u16, delta: &Delta) -> Summary
         Delta::RaiseLast(r) => Summary::Last(n.max(*r)),
         Delta::SetLast(r) => Summary::Last(*r),
         _ => Summary::Last(n),
+    }
+}
+
+/// The number of a file's paths after a delta of it.
+fn count_after(n: u64, delta: &Delta) -> Summary
+    ensures { result ≡ summary_of (value_made (outcome_count n delta.now) (Some (values.Count n))) }
+{
+    match delta {
+        Delta::LinkAdd => Summary::Count(n.saturating_add(1)),
+        Delta::LinkSub if n <= 2 => Summary::Missing,
+        Delta::LinkSub => Summary::Count(n - 1),
+        _ => Summary::Count(n),
     }
 }
 

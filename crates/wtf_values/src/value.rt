@@ -24,6 +24,8 @@ pub enum Value {
     Last(u16),
     /// The bytes of a region.
     Region(RegionValue),
+    /// The number of a file's paths, where it has two or more.
+    Count(u64),
 }
 
 /// A change of what a key has. One on a value of another kind changes nothing, and on a missing
@@ -49,6 +51,10 @@ pub enum Delta {
     DirAdd(Name),
     /// Takes a name out of a directory's.
     DirDel(Name),
+    /// One path more: a missing number of paths becomes 2, and the greatest number stays.
+    LinkAdd,
+    /// One path less: a number of paths that is 2 at most goes.
+    LinkSub,
     /// Sets the value, whatever it was.
     Put(Value),
     /// Takes the value out, whatever it was.

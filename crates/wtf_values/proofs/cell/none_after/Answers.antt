@@ -1,17 +1,23 @@
-use Rattle.std.proofs.Common.{◌≡◌, ◌∙◌, None, Some, true, sym, ap}
+use Rattle.std.proofs.Common.{◌≡◌, ◌∙◌, None, true, false, sym, ap}
 use Rattle.wtf_kv.specs.Edits.{fits, value_made}
-use Rattle.wtf_values.specs.Outcomes.{makes_region, outcome_region}
-use Rattle.wtf_values.proofs.OutcomeLaws.{makes_of_empty}
+use Rattle.wtf_values.specs.Outcomes.{adds_link}
+use Rattle.wtf_values.proofs.OutcomeLaws.{none_counts, none_region}
 use Rattle.wtf_values.proofs.cell.none_after.Goals as goal
 
-pub region_after-requires : goal.region_after-requires
-region_after-requires c =
+pub returns-then-adds_link : goal.returns-then-adds_link
+returns-then-adds_link c =
     let d = c.args.delta.now in
-    let makes : makes_region d ≡ true = sym c.makes_region.ensures ∙ c.if-makes_region.true in
-    ap (λ v. fits (outcome_region (Some v) d)) c.in_ok-empty.ensures ∙ ap fits (makes_of_empty d makes) ∙ c.requires
+    let adds : adds_link d ≡ true = sym c.adds_link.ensures ∙ c.if-adds_link.true in
+    sym (ap (λ o. value_made o None) (none_counts d adds))
 
-pub returns-then-makes_region : goal.returns-then-makes_region
-returns-then-makes_region c =
+pub region_made-requires : goal.region_made-requires
+region_made-requires c =
     let d = c.args.delta.now in
-    let makes : makes_region d ≡ true = sym c.makes_region.ensures ∙ c.if-makes_region.true in
-    sym (ap (λ o. value_made o None) (sym (makes_of_empty d makes) ∙ ap (λ v. outcome_region (Some v) d) (sym c.in_ok-empty.ensures) ∙ c.in_ok-region_after.ensures))
+    let other : adds_link d ≡ false = sym c.adds_link.ensures ∙ c.if-adds_link.false in
+    ap fits (sym (none_region d other)) ∙ c.requires
+
+pub returns : goal.returns
+returns c =
+    let d = c.args.delta.now in
+    let other : adds_link d ≡ false = sym c.adds_link.ensures ∙ c.if-adds_link.false in
+    c.in_ok-region_made.ensures ∙ ap (λ o. value_made o None) (sym (none_region d other))
