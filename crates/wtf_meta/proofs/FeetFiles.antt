@@ -18,7 +18,7 @@ use Rattle.wtf_model.specs.Session as model
 use Rattle.wtf_model.specs.Session.{Session}
 use Rattle.wtf_model.proofs.ItemLaws.{is_among-head, is_among-bodies, writes-okay}
 use Rattle.wtf_values.specs.declared.key.Key.{Key}
-use Rattle.wtf_values.specs.declared.key.Key.TheVariants.{Path, Dir, Inode, Region}
+use Rattle.wtf_values.specs.declared.key.Key.TheVariants.{Path, Dir, Inode, Region, Links}
 use Rattle.wtf_values.specs.declared.value.Delta.{Delta}
 use Rattle.wtf_values.specs.Keys.{key_cmp}
 use Rattle.wtf_values.specs.Outcomes.{outcome_of}
@@ -37,12 +37,13 @@ use Rattle.wtf_meta.proofs.Handling.{open_at}
 use Rattle.wtf_meta.proofs.Standing.{leads-paths}
 use Rattle.wtf_meta.proofs.Steps.{step}
 
--- a key is of the file of this inode
+-- a key is of the bytes of this inode
 abbrev pub IsOf : InodeId → Key → Type 0
 IsOf i (Path p) = ⊥
 IsOf i (Dir p) = ⊥
 IsOf i (Inode j) = i ≡ j
 IsOf i (Region j r) = i ≡ j
+IsOf i (Links j) = ⊥
 
 -- all keys that a change names are of it
 abbrev pub ChangeOf : InodeId → Change Key Delta → Type 0
@@ -82,6 +83,7 @@ path_kept i (change.Delta (Path q) d) w p of = absurd of
 path_kept i (change.Delta (Dir q) d) w p of = absurd of
 path_kept i (change.Delta (Inode j) d) w p of = refl
 path_kept i (change.Delta (Region j r) d) w p of = refl
+path_kept i (change.Delta (Links j) d) w p of = absurd of
 path_kept i (change.Cut from to) w p of = ⊎_elim
     (λ within. absurd (of (Path p) within))
     (λ outside. ap (λ b. cond b None (w (Path p))) outside)
@@ -109,12 +111,14 @@ module _ (tx : ℕ) (w : Map) (i : InodeId) where
   own_read R (Dir p) own of = absurd of
   own_read R (Inode j) own of = inl (subst (λ (z : InodeId). z.tx.0 ≡ tx) of own)
   own_read R (Region j r) own of = inl (subst (λ (z : InodeId). z.tx.0 ≡ tx) of own)
+  own_read R (Links j) own of = absurd of
 
   written_of : (W : List Item) (k : Key) → ((q : List ℕ) → LeadsTo w q i → Has (BodyOf q) W) → IsOf i k → WrittenBy w W k
   written_of W (Path p) each of = absurd of
   written_of W (Dir p) each of = absurd of
   written_of W (Inode j) each of = λ q to. each q (subst (λ (z : InodeId). LeadsTo w q z) (sym of) to)
   written_of W (Region j r) each of = λ q to. each q (subst (λ (z : InodeId). LeadsTo w q z) (sym of) to)
+  written_of W (Links j) each of = absurd of
 
   -- a change of a file whose bytes are written by each of its paths
   pub change_written : (W : List Item) (c : Change Key Delta) → ((q : List ℕ) → LeadsTo w q i → Has (BodyOf q) W) → ChangeOf i c → ChangeWritten w W c
@@ -144,6 +148,7 @@ module _ (tx : ℕ) (w : Map) (i : InodeId) where
     key_read (Dir q) of = absurd of
     key_read (Inode j) of = inr (record { path = p; leads = subst (λ (z : InodeId). LeadsTo w p z) of leads; body = has })
     key_read (Region j r) of = inr (record { path = p; leads = subst (λ (z : InodeId). LeadsTo w p z) of leads; body = has })
+    key_read (Links j) of = absurd of
 
     pub keys_read : (ks : List FileKey) → EachRead tx w R (keys_of i ks)
     keys_read [] = tt
@@ -183,8 +188,7 @@ module _ (x : Caller) (told : Told) (w : Map) (s : SessionView) (S : Session) (h
     -- changes of its file that fit whatever they meet, where no key was recorded
     pub handle_lays : (ds : List FileEdit) → ((m : Map) → AllFit (edits_of h.inode ds) m)
         → Feet x.tx w [] (edits_of h.inode ds) (reads S o) (writes (cap_for x) S o)
-    handle_lays ds fit =
-        feet_file x.tx w h.inode [] (edits_of h.inode ds) (reads S o) (writes (cap_for x) S o) tt
+    handle_lays ds fit = feet_file x.tx w h.inode [] (edits_of h.inode ds) (reads S o) (writes (cap_for x) S o) tt
         (unfit-none (edits_of h.inode ds) (ReadBy x.tx w (reads S o)) fit) each_path (edits_are_of h.inode ds)
 
     -- changes that may find no room

@@ -12,10 +12,10 @@ use Rattle.wtf_kv.proofs.EditLaws.{over-append}
 use Rattle.wtf_occ.specs.Attempts.{Attempted}
 use Rattle.wtf_occ.specs.Tries.{or_else, first_moved, key_in_the_way}
 use Rattle.wtf_model.specs.declared.item.Item.{Item}
-use Rattle.wtf_model.specs.declared.item.Item.TheVariants.{NodeOf, NamesOf, BodyOf}
+use Rattle.wtf_model.specs.declared.item.Item.TheVariants.{NodeOf, NamesOf, BodyOf, LinksOf}
 use Rattle.wtf_model.proofs.ItemLaws.{is_among-left, is_among-right}
 use Rattle.wtf_values.specs.declared.key.Key.{Key}
-use Rattle.wtf_values.specs.declared.key.Key.TheVariants.{Path, Dir, Inode, Region}
+use Rattle.wtf_values.specs.declared.key.Key.TheVariants.{Path, Dir, Inode, Region, Links}
 use Rattle.wtf_values.specs.declared.value.Value.{Value}
 use Rattle.wtf_values.specs.declared.value.Delta.{Delta}
 use Rattle.wtf_values.specs.Keys.{key_cmp}
@@ -23,7 +23,7 @@ use Rattle.wtf_values.specs.Outcomes.{outcome_of}
 use Rattle.wtf_values.proofs.KeyLaws.{at_same}
 use Rattle.wtf_meta.specs.Maps.{Map, Edits, with, AllFit, metadata_at}
 use Rattle.wtf_meta.specs.Trees.{LeadsTo}
-use Rattle.wtf_meta.specs.Feet.{Has, BodyRead, FileRead, ReadBy, WrittenBy, EachRead, ChangeWritten, EachWritten, Comes, Feet}
+use Rattle.wtf_meta.specs.Feet.{Has, BodyRead, LinksRead, FileRead, ReadBy, WrittenBy, EachRead, ChangeWritten, EachWritten, Comes, Feet}
 use Rattle.wtf_meta.proofs.Steps.{step}
 
 -- the key of the first change that finds no room
@@ -53,11 +53,39 @@ module _ (tx : ℕ) (old : Map) (R S : List Item) where
   body-right : (i : InodeId) → BodyRead old S i → BodyRead old (R ++ S) i
   body-right i h = record { path = h.path; leads = h.leads; body = is_among-right R S (BodyOf h.path) h.body }
 
+  links-left : (i : InodeId) → LinksRead old R i → LinksRead old (R ++ S) i
+  links-left i h = record {
+    path = h.path;
+    leads = h.leads;
+    node = is_among-left R S (NodeOf h.path) h.node;
+    links = is_among-left R S (LinksOf h.path) h.links;
+  }
+
+  links-right : (i : InodeId) → LinksRead old S i → LinksRead old (R ++ S) i
+  links-right i h = record {
+    path = h.path;
+    leads = h.leads;
+    node = is_among-right R S (NodeOf h.path) h.node;
+    links = is_among-right R S (LinksOf h.path) h.links;
+  }
+
   file-left : (i : InodeId) → FileRead old R i → FileRead old (R ++ S) i
-  file-left i h = record { path = h.path; leads = h.leads; node = is_among-left R S (NodeOf h.path) h.node; body = is_among-left R S (BodyOf h.path) h.body }
+  file-left i h = record {
+    path = h.path;
+    leads = h.leads;
+    node = is_among-left R S (NodeOf h.path) h.node;
+    body = is_among-left R S (BodyOf h.path) h.body;
+    links = is_among-left R S (LinksOf h.path) h.links;
+  }
 
   file-right : (i : InodeId) → FileRead old S i → FileRead old (R ++ S) i
-  file-right i h = record { path = h.path; leads = h.leads; node = is_among-right R S (NodeOf h.path) h.node; body = is_among-right R S (BodyOf h.path) h.body }
+  file-right i h = record {
+    path = h.path;
+    leads = h.leads;
+    node = is_among-right R S (NodeOf h.path) h.node;
+    body = is_among-right R S (BodyOf h.path) h.body;
+    links = is_among-right R S (LinksOf h.path) h.links;
+  }
 
   -- what was read is among more
   pub ReadBy-left : (k : Key) → ReadBy tx old R k → ReadBy tx old (R ++ S) k
@@ -67,6 +95,8 @@ module _ (tx : ℕ) (old : Map) (R S : List Item) where
   ReadBy-left (Inode i) (inr h) = inr (body-left i h)
   ReadBy-left (Region i r) (inl own) = inl own
   ReadBy-left (Region i r) (inr h) = inr (body-left i h)
+  ReadBy-left (Links i) (inl own) = inl own
+  ReadBy-left (Links i) (inr h) = inr (links-left i h)
 
   pub ReadBy-right : (k : Key) → ReadBy tx old S k → ReadBy tx old (R ++ S) k
   ReadBy-right (Path p) h = is_among-right R S (NodeOf p) h
@@ -75,6 +105,8 @@ module _ (tx : ℕ) (old : Map) (R S : List Item) where
   ReadBy-right (Inode i) (inr h) = inr (body-right i h)
   ReadBy-right (Region i r) (inl own) = inl own
   ReadBy-right (Region i r) (inr h) = inr (body-right i h)
+  ReadBy-right (Links i) (inl own) = inl own
+  ReadBy-right (Links i) (inr h) = inr (links-right i h)
 
   pub EachRead-left : (ks : List Key) → EachRead tx old R ks → EachRead tx old (R ++ S) ks
   EachRead-left [] h = tt
@@ -89,6 +121,10 @@ module _ (tx : ℕ) (old : Map) (R S : List Item) where
   WrittenBy-left (Dir p) h = is_among-left R S (NamesOf p) h
   WrittenBy-left (Inode i) h = λ q to. is_among-left R S (BodyOf q) (h q to)
   WrittenBy-left (Region i r) h = λ q to. is_among-left R S (BodyOf q) (h q to)
+  WrittenBy-left (Links i) h = λ q to. ⊎_elim
+      (λ node. inl (is_among-left R S (NodeOf q) node))
+      (λ links. inr (is_among-left R S (LinksOf q) links))
+      (h q to)
 
   ChangeWritten-left : (c : Change Key Delta) → ChangeWritten old R c → ChangeWritten old (R ++ S) c
   ChangeWritten-left (change.Delta k d) h = WrittenBy-left k h
@@ -132,6 +168,15 @@ module _ (tx : ℕ) (a : Map) (ks : List Key) (cs : Edits) (R W : List Item) (fi
       rest)
       (first.comes h.path i h.leads)
 
+  links_back : (i : InodeId) → LinksRead mid S i → (i.tx.0 ≡ tx) ⊎ LinksRead a (R ++ S) i
+  links_back i h = ⊎_elim
+      (λ stood. inr (links-right tx a R S i (record { path = h.path; leads = stood; node = h.node; links = h.links })))
+      (λ rest. ⊎_elim
+      (λ own. inl own)
+      (λ from. inr (links-left tx a R S i (record { path = from.path; leads = from.leads; node = from.node; links = from.links })))
+      rest)
+      (first.comes h.path i h.leads)
+
   read_back : (k : Key) → ReadBy tx mid S k → ReadBy tx a (R ++ S) k
   read_back (Path p) h = is_among-right R S (NodeOf p) h
   read_back (Dir p) h = is_among-right R S (NamesOf p) h
@@ -139,6 +184,8 @@ module _ (tx : ℕ) (a : Map) (ks : List Key) (cs : Edits) (R W : List Item) (fi
   read_back (Inode i) (inr h) = body_back i h
   read_back (Region i r) (inl own) = inl own
   read_back (Region i r) (inr h) = body_back i h
+  read_back (Links i) (inl own) = inl own
+  read_back (Links i) (inr h) = links_back i h
 
   each_read_back : (ls : List Key) → EachRead tx mid S ls → EachRead tx a (R ++ S) ls
   each_read_back [] h = tt
@@ -147,11 +194,22 @@ module _ (tx : ℕ) (a : Map) (ks : List Key) (cs : Edits) (R W : List Item) (fi
   body_on : (i : InodeId) → ((q : List ℕ) → LeadsTo mid q i → Has (BodyOf q) V) → (q : List ℕ) → LeadsTo a q i → Has (BodyOf q) (W ++ V)
   body_on i h q to = ⊎_elim (λ still. is_among-right W V (BodyOf q) (h q still)) (λ gone. is_among-left W V (BodyOf q) gone.1) (first.stays q i to)
 
+  links_on : (i : InodeId) → ((q : List ℕ) → LeadsTo mid q i → Has (NodeOf q) V ⊎ Has (LinksOf q) V) → (q : List ℕ) → LeadsTo a q i
+      → Has (NodeOf q) (W ++ V) ⊎ Has (LinksOf q) (W ++ V)
+  links_on i h q to = ⊎_elim
+      (λ still. ⊎_elim
+      (λ node. inl (is_among-right W V (NodeOf q) node))
+      (λ links. inr (is_among-right W V (LinksOf q) links))
+      (h q still))
+      (λ gone. inl (is_among-left W V (NodeOf q) gone.0))
+      (first.stays q i to)
+
   written_back : (k : Key) → WrittenBy mid V k → WrittenBy a (W ++ V) k
   written_back (Path p) h = is_among-right W V (NodeOf p) h
   written_back (Dir p) h = is_among-right W V (NamesOf p) h
   written_back (Inode i) h = body_on i h
   written_back (Region i r) h = body_on i h
+  written_back (Links i) h = links_on i h
 
   change_back : (c : Change Key Delta) → ChangeWritten mid V c → ChangeWritten a (W ++ V) c
   change_back (change.Delta k d) h = written_back k h
@@ -169,7 +227,7 @@ module _ (tx : ℕ) (a : Map) (ks : List Key) (cs : Edits) (R W : List Item) (fi
       (first.comes p i to)
   come_back p i (inr (inl own)) = inr (inl own)
   come_back p i (inr (inr h)) = ⊎_elim
-      (λ stood. inr (inr (file-right tx a R S i (record { path = h.path; leads = stood; node = h.node; body = h.body }))))
+      (λ stood. inr (inr (file-right tx a R S i (record { path = h.path; leads = stood; node = h.node; body = h.body; links = h.links }))))
       (λ rest. inr (⊎_elim (λ own. inl own) (λ from. inr (file-left tx a R S i from)) rest))
       (first.comes h.path i h.leads)
 

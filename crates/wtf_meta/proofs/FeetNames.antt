@@ -9,7 +9,7 @@ use Rattle.wtf_kv.specs.declared.changes.Change.TheVariants as change
 use Rattle.wtf_path.specs.Parts.{parent_of}
 use Rattle.wtf_model.specs.declared.answer.Answer.TheVariants as answer
 use Rattle.wtf_model.specs.declared.item.Item.{Item}
-use Rattle.wtf_model.specs.declared.item.Item.TheVariants.{NodeOf, NamesOf, BodyOf}
+use Rattle.wtf_model.specs.declared.item.Item.TheVariants.{NodeOf, NamesOf, BodyOf, LinksOf}
 use Rattle.wtf_model.specs.declared.op.Op.{Op}
 use Rattle.wtf_model.specs.Call.{call}
 use Rattle.wtf_model.specs.Items.{names_above, folder_changes, file_changes, changes, writes}
@@ -26,7 +26,7 @@ use Rattle.wtf_values.proofs.KeyLaws.{at_same}
 use Rattle.wtf_meta.specs.Maps.{Map, Edits, with}
 use Rattle.wtf_meta.specs.Contents.{Told}
 use Rattle.wtf_meta.specs.FileEdits.{LAST_REGION}
-use Rattle.wtf_meta.specs.NameEdits.{mkdir_edits, rmdir_edits, create_edits, unlink_edits, rename_edits}
+use Rattle.wtf_meta.specs.NameEdits.{mkdir_edits, rmdir_edits, create_edits, unlink_edits, unlink_one_edits, link_edits, rename_edits}
 use Rattle.wtf_meta.specs.Trees.{LeadsTo, Stands}
 use Rattle.wtf_meta.specs.Feet.{Has, ReadBy, EachRead, Feet}
 use Rattle.wtf_meta.proofs.FeetLaws.{unfit-none, unfit-parts, EachWritten-append}
@@ -137,33 +137,92 @@ module _ (tx : ℕ) (w : Map) (ks : List Key) (R : List Item) (read : EachRead t
         (put_stays p (Some (value.Node (File i))) (λ z. w (Path z)) q j to);
   }
 
-  -- a file is taken out
-  pub feet_unlink : (p dir : List ℕ) (i : InodeId) → parent_of p ≡ Some dir → ((q : List ℕ) → LeadsTo w q i → q ≡ p)
-      → Feet tx w ks (unlink_edits dir p i) R (file_changes p)
-  feet_unlink p dir i up alone =
-      let each : (q : List ℕ) → LeadsTo w q i → Has (BodyOf q) (file_changes p) = λ q to.
-      subst (λ z. Has (BodyOf z) (file_changes p)) (sym (alone q to)) (file_body p) in
+  module _ (p dir : List ℕ) (i : InodeId) (up : parent_of p ≡ Some dir) (L : List Item) where
+    -- what a file changes that loses a path, and by which paths it tells how many they are
+    abbrev dropped : List Item
+    dropped = file_changes p ++ L
+
+    node_dropped : Has (NodeOf p) dropped
+    node_dropped = is_among-left (file_changes p) L (NodeOf p) (file_node p)
+
+    body_dropped : Has (BodyOf p) dropped
+    body_dropped = is_among-left (file_changes p) L (BodyOf p) (file_body p)
+
+    names_dropped : Has (NamesOf dir) dropped
+    names_dropped = is_among-left (file_changes p) L (NamesOf dir) (names_changed p dir up)
+
+    leads_left : (q : List ℕ) (j : InodeId) → put p None (λ z. w (Path z)) q ≡ Some (value.Node (File j)) → LeadsTo w q j
+    leads_left q j to = ⊎_elim (λ here. absurd (none_leads None j refl here.1)) (λ stood. stood) (put_leads p None (λ z. w (Path z)) q j to)
+
+    stays_left : (q : List ℕ) (j : InodeId) → LeadsTo w q j
+        → (put p None (λ z. w (Path z)) q ≡ Some (value.Node (File j))) ⊎ (Has (NodeOf q) dropped × Has (BodyOf q) dropped)
+    stays_left q j to = ⊎_elim
+        (λ same. inr (subst (λ z. Has (NodeOf z) dropped × Has (BodyOf z) dropped) (sym same) (node_dropped, body_dropped)))
+        (λ still. inl still)
+        (put_stays p None (λ z. w (Path z)) q j to)
+
+    -- a file is taken out with its last path
+    pub feet_unlink : ((q : List ℕ) → LeadsTo w q i → q ≡ p) → Feet tx w ks (unlink_edits dir p i) R dropped
+    feet_unlink alone =
+        let each : (q : List ℕ) → LeadsTo w q i → Has (BodyOf q) dropped = λ q to.
+        subst (λ z. Has (BodyOf z) dropped) (sym (alone q to)) body_dropped in
+        record {
+          read = read;
+          unfit = unfit-none (unlink_edits dir p i) (ReadBy tx w R) (λ m. plain_fit (unlink_edits dir p i) m (refl, (refl, (refl, tt))));
+          written = (
+            change_written tx w i dropped (change.Cut (Region i 0) (Region i LAST_REGION)) each (cut_of i 0 LAST_REGION),
+            (each, (node_dropped, (names_dropped, tt))),
+          );
+          comes = λ q j to. inl (leads_left q j to);
+          stays = stays_left;
+        }
+
+    -- or loses a path beside others
+    pub feet_unlink_one : ((q : List ℕ) → LeadsTo w q i → Has (LinksOf q) L) → Feet tx w ks (unlink_one_edits dir p i) R dropped
+    feet_unlink_one each = record {
+      read = read;
+      unfit = unfit-none (unlink_one_edits dir p i) (ReadBy tx w R) (λ m. plain_fit (unlink_one_edits dir p i) m (refl, (refl, (refl, tt))));
+      written = (node_dropped, (names_dropped, ((λ q to. inr (is_among-right (file_changes p) L (LinksOf q) (each q to))), tt)));
+      comes = λ q j to. inl (leads_left q j to);
+      stays = stays_left;
+    }
+
+  -- a file gets one more path, of which R has all that was read of it
+  pub feet_link : (p q dir : List ℕ) (i : InodeId) (L : List Item) → parent_of q ≡ Some dir → LeadsTo w p i → ((j : InodeId) → LeadsTo w q j → ⊥)
+      → Has (NodeOf p) R → Has (BodyOf p) R → Has (LinksOf p) R → ((z : List ℕ) → LeadsTo w z i → Has (LinksOf z) L)
+      → Feet tx w ks (link_edits dir q i) R (file_changes q ++ L)
+  feet_link p q dir i L over leads free node body links each =
+      let file : Option Value = Some (value.Node (File i)) in
       record {
         read = read;
-        unfit = unfit-none (unlink_edits dir p i) (ReadBy tx w R) (λ m. plain_fit (unlink_edits dir p i) m (refl, (refl, (refl, tt))));
+        unfit = unfit-none (link_edits dir q i) (ReadBy tx w R) (λ m. plain_fit (link_edits dir q i) m (refl, (refl, (refl, tt))));
         written = (
-          change_written tx w i (file_changes p) (change.Cut (Region i 0) (Region i LAST_REGION)) each (cut_of i 0 LAST_REGION),
-          (each, (file_node p, (names_changed p dir up, tt))),
+          is_among-left (file_changes q) L (NodeOf q) (file_node q),
+          (
+            is_among-left (file_changes q) L (NamesOf dir) (names_changed q dir over),
+            ((λ z to. inr (is_among-right (file_changes q) L (LinksOf z) (each z to))), tt),
+          ),
         );
-        comes = λ q j to. ⊎_elim
-            (λ here. absurd (none_leads None j refl here.1))
+        comes = λ z j to. ⊎_elim
+            (λ here. inr (inr (record {
+              path = p;
+              leads = subst (λ (k : InodeId). LeadsTo w p k) (one_leads file i j refl here.1) leads;
+              node = node;
+              body = body;
+              links = links;
+            })))
             (λ stood. inl stood)
-            (put_leads p None (λ z. w (Path z)) q j to);
-        stays = λ q j to. ⊎_elim
-            (λ same. inr (subst (λ z. Has (NodeOf z) (file_changes p) × Has (BodyOf z) (file_changes p)) (sym same) (file_node p, file_body p)))
+            (put_leads q file (λ y. w (Path y)) z j to);
+        stays = λ z j to. ⊎_elim
+            (λ same. absurd (free j (subst (λ y. LeadsTo w y j) same to)))
             (λ still. inl still)
-            (put_stays p None (λ z. w (Path z)) q j to);
+            (put_stays q file (λ y. w (Path y)) z j to);
       }
 
-  -- a file gets another path
+  -- a file has another path in place of one
   pub feet_rename : (p up q dir : List ℕ) (i : InodeId) → parent_of p ≡ Some up → parent_of q ≡ Some dir → LeadsTo w p i → ((j : InodeId) → LeadsTo w q j → ⊥)
-      → Has (NodeOf p) R → Has (BodyOf p) R → Feet tx w ks (rename_edits up p dir q i) R (file_changes p ++ file_changes q)
-  feet_rename p up q dir i above over leads free node body =
+      → Has (NodeOf p) R → Has (BodyOf p) R → Has (LinksOf p) R → Feet tx w ks (rename_edits up p dir q i) R (file_changes p ++ file_changes q)
+  feet_rename p up q dir i above over leads free node body links =
       let W : List Item = file_changes p ++ file_changes q in
       let file : Option Value = Some (value.Node (File i)) in
       let left : List ℕ → Option Value = put p None (λ z. w (Path z)) in
@@ -186,6 +245,7 @@ module _ (tx : ℕ) (w : Map) (ks : List Key) (R : List Item) (read : EachRead t
               leads = subst (λ (k : InodeId). LeadsTo w p k) (one_leads file i j refl here.1) leads;
               node = node;
               body = body;
+              links = links;
             })))
             (λ kept. ⊎_elim
             (λ gone. absurd (none_leads None j refl gone.1))

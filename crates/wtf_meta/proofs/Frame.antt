@@ -7,7 +7,7 @@ use Rattle.wtf_base.specs.declared.ids.InodeId.{InodeId}
 use Rattle.wtf_kv.specs.declared.changes.Change.TheVariants as change
 use Rattle.wtf_kv.specs.Edits.{is_between}
 use Rattle.wtf_values.specs.declared.key.Key.{Key}
-use Rattle.wtf_values.specs.declared.key.Key.TheVariants.{Path, Dir, Inode, Region}
+use Rattle.wtf_values.specs.declared.key.Key.TheVariants.{Path, Dir, Inode, Region, Links}
 use Rattle.wtf_values.specs.declared.value.Value.TheVariants as value
 use Rattle.wtf_values.specs.declared.value.Delta.{Delta}
 use Rattle.wtf_values.specs.declared.value.Delta.TheVariants as delta
@@ -24,6 +24,7 @@ IsElsewhere i (Path p) = ⊤
 IsElsewhere i (Dir p) = ⊤
 IsElsewhere i (Inode j) = i ≢ j
 IsElsewhere i (Region j r) = i ≢ j
+IsElsewhere i (Links j) = ⊤
 
 -- which is not the inode's
 pub inode_differs : (i : InodeId) (q : Key) → IsElsewhere i q → Inode i ≢ q
@@ -36,13 +37,16 @@ inode_differs i (Inode j) h e = h (ap owner e)
     owner (Dir p) = i
     owner (Inode k) = k
     owner (Region k s) = k
+    owner (Links k) = k
 inode_differs i (Region j r) h e = absurd (cc)
+inode_differs i (Links j) h e = absurd (cc)
 
 -- nor that of a region
 pub region_differs : (i : InodeId) (r : ℕ) (q : Key) → IsElsewhere i q → Region i r ≢ q
 region_differs i r (Path p) h e = absurd (cc)
 region_differs i r (Dir p) h e = absurd (cc)
 region_differs i r (Inode j) h e = absurd (cc)
+region_differs i r (Links j) h e = absurd (cc)
 region_differs i r (Region j s) h e = h (ap owner e)
   where
     owner : Key → InodeId
@@ -50,6 +54,7 @@ region_differs i r (Region j s) h e = h (ap owner e)
     owner (Dir p) = i
     owner (Inode k) = k
     owner (Region k t) = k
+    owner (Links k) = k
 
 -- a delta leaves the keys that it does not name
 pub delta_elsewhere : (k q : Key) (d : Delta) (w : Map) → k ≢ q → step (change.Delta k d) w q ≡ w q
@@ -60,6 +65,7 @@ cut_elsewhere : (i : InodeId) (r : ℕ) (q : Key) → IsElsewhere i q → is_bet
 cut_elsewhere i r (Path p) h = refl
 cut_elsewhere i r (Dir p) h = refl
 cut_elsewhere i r (Inode j) h = refl
+cut_elsewhere i r (Links j) h = refl
 cut_elsewhere i r (Region j s) h = between_other i j (r + 1) LAST_REGION s h
 
 stays : (i : InodeId) (d : FileEdit) (w : Map) (q : Key) → IsElsewhere i q → step (edit_of i d) w q ≡ w q
@@ -92,6 +98,10 @@ inodes_stay i j ds w h = others_stay i ds w (Inode j) h
 -- and so have its regions
 pub regions_stay : (i j : InodeId) (r : ℕ) (ds : List FileEdit) (w : Map) → i ≢ j → with (edits_of i ds) w (Region j r) ≡ w (Region j r)
 regions_stay i j r ds w h = others_stay i ds w (Region j r) h
+
+-- each file has as many paths as it had
+pub links_stay : (i j : InodeId) (ds : List FileEdit) (w : Map) → with (edits_of i ds) w (Links j) ≡ w (Links j)
+links_stay i j ds w = others_stay i ds w (Links j) tt
 
 -- and so the other files are what they were
 pub file_stays : (i j : InodeId) (ds : List FileEdit) (w : Map) → i ≢ j → file_of j (with (edits_of i ds) w) ≡ file_of j w

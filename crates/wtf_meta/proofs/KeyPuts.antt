@@ -9,14 +9,14 @@ use Rattle.wtf_kv.specs.Edits.{value_made}
 use Rattle.wtf_kv.proofs.EditLaws.{over-append}
 use Rattle.wtf_path.specs.Parts.{name_of}
 use Rattle.wtf_values.specs.declared.key.Key.{Key}
-use Rattle.wtf_values.specs.declared.key.Key.TheVariants.{Path, Dir, Inode, Region}
+use Rattle.wtf_values.specs.declared.key.Key.TheVariants.{Path, Dir, Inode, Region, Links}
 use Rattle.wtf_values.specs.declared.value.Value.{Value}
 use Rattle.wtf_values.specs.declared.value.Value.TheVariants as value
 use Rattle.wtf_values.specs.declared.value.Delta.{Delta}
 use Rattle.wtf_values.specs.declared.value.Delta.TheVariants as delta
 use Rattle.wtf_values.specs.Keys.{key_cmp}
 use Rattle.wtf_values.specs.Names.{NamesOf, with_name, without_name}
-use Rattle.wtf_values.specs.Outcomes.{outcome_of}
+use Rattle.wtf_values.specs.Outcomes.{outcome_count, outcome_of}
 use Rattle.wtf_values.proofs.KeyLaws.{at_itself, at_same, at_none, between_region, between_other}
 use Rattle.wtf_meta.specs.Maps.{Map, Edits, with}
 use Rattle.wtf_meta.specs.NameEdits.{add_to, drop_from}
@@ -40,6 +40,9 @@ dirs-apart p q differ e = let same : q ≡ p = cc in differ same
 
 pub inodes-apart : (i j : InodeId) → j ≢ i → Inode i ≢ Inode j
 inodes-apart i j differ e = let same : j ≡ i = cc in differ same
+
+pub counts-apart : (i j : InodeId) → j ≢ i → Links i ≢ Links j
+counts-apart i j differ e = let same : j ≡ i = cc in differ same
 
 -- two inodes are one, or not
 pub one_inode : (i j : InodeId) → (j ≡ i) ⊎ (j ≢ i)
@@ -70,6 +73,16 @@ pub with-drop_from : (w : Map) (dir p : List ℕ) (names : NamesOf) → w (Dir d
     → with (drop_from dir p ∷ []) w ≡ put_in w (Dir dir) (Some (value.Names (without_name names (name_of p))))
 with-drop_from w dir p names is = with-delta w (Dir dir) (delta.DirDel (name_of p))
     ∙ ap (λ v. put_in w (Dir dir) (value_made (outcome_of v (delta.DirDel (name_of p))) v)) is
+
+-- a file tells one path less
+pub with-sub : (w : Map) (i : InodeId) (n : ℕ) → w (Links i) ≡ Some (value.Count n)
+    → with (change.Delta (Links i) delta.LinkSub ∷ []) w ≡ put_in w (Links i) (value_made (outcome_count n delta.LinkSub) (Some (value.Count n)))
+with-sub w i n is = with-delta w (Links i) delta.LinkSub ∙ ap (λ v. put_in w (Links i) (value_made (outcome_of v delta.LinkSub) v)) is
+
+-- or one more
+pub with-add : (w : Map) (i : InodeId) (v : Option Value) → w (Links i) ≡ v
+    → with (change.Delta (Links i) delta.LinkAdd ∷ []) w ≡ put_in w (Links i) (value_made (outcome_of v delta.LinkAdd) v)
+with-add w i v is = with-delta w (Links i) delta.LinkAdd ∙ ap (λ o. put_in w (Links i) (value_made (outcome_of o delta.LinkAdd) o)) is
 
 -- a cut of regions of a file takes out just those
 pub cut-own : (w : Map) (i : InodeId) (from to r : ℕ) → from ≤ r → r ≤ to → with (change.Cut (Region i from) (Region i to) ∷ []) w (Region i r) ≡ None

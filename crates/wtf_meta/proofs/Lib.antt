@@ -36,6 +36,7 @@ pub mod Shown
 pub mod Bodies
 pub mod HandleLaws
 pub mod KeyPuts
+pub mod Counts
 pub mod Standing
 pub mod Shapes
 pub mod Refiling

@@ -113,6 +113,7 @@ names_stay s t d (Some (value.Names names)) None same at = absurd at
 names_stay s t d (Some (value.Names names)) (Some Dir) same at = listing-stays s t d names same at
 names_stay s t d (Some (value.Names names)) (Some (File paths bytes)) same at = absurd at
 names_stay s t d (Some (value.Last r)) o same at = absurd at
+names_stay s t d (Some (value.Count n)) o same at = absurd at
 names_stay s t d (Some (value.Region g)) o same at = absurd at
 
 names_kept : (s t : Tree) (d : List ℕ) (v x : Option Value) (o y : Option TreeNode) → ((q : List ℕ) → parent_of q ≡ Some d → get t q ≡ get s q) → x ≡ v → y ≡ o

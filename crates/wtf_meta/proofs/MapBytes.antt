@@ -1,10 +1,10 @@
 -- What comes of changes names only bytes that the values named or the changes bring.
-use Rattle.std.proofs.Common.{◌≡◌, ℕ, Bool, true, false, cond, if◌then◌else◌, List, [], ◌∷◌, Option, None, Some}
+use Rattle.std.proofs.Common.{◌≡◌, ℕ, ◌-◌, nat_le, Bool, true, false, cond, if◌then◌else◌, List, [], ◌∷◌, Option, None, Some}
 use Rattle.std.specs.BTreeMap.{is_at}
 use Rattle.wtf_base.specs.declared.slice.Slice.{Slice}
 use Rattle.wtf_kv.specs.declared.changes.Change.{Change}
 use Rattle.wtf_kv.specs.declared.changes.Change.TheVariants as change
-use Rattle.wtf_kv.specs.declared.cell.Applied.TheVariants.{Is, Unfit}
+use Rattle.wtf_kv.specs.declared.cell.Applied.TheVariants.{Is, Gone, Unfit}
 use Rattle.wtf_kv.specs.Edits.{value_made, is_between, after_change, after_changes}
 use Rattle.wtf_overlay.specs.Origin.{Place}
 use Rattle.wtf_values.specs.declared.key.Key.{Key}
@@ -15,7 +15,7 @@ use Rattle.wtf_values.specs.declared.value.Delta.{Delta}
 use Rattle.wtf_values.specs.declared.value.Delta.TheVariants as delta
 use Rattle.wtf_values.specs.Keys.{key_cmp}
 use Rattle.wtf_values.specs.Regions.{or_empty, with_pieces, fits_at_end}
-use Rattle.wtf_values.specs.Outcomes.{outcome_region, outcome_last, outcome_names, outcome_kind, outcome_of}
+use Rattle.wtf_values.specs.Outcomes.{outcome_none, outcome_region, outcome_last, outcome_names, outcome_count, outcome_kind, outcome_of}
 use Rattle.wtf_values.specs.Names.{NamesOf}
 use Rattle.wtf_meta.specs.Maps.{Map, Edits, with}
 use Rattle.wtf_meta.specs.Bytes.{RegionBytes, ValueBytes, MapBytes, DeltaBytes, EditBytes, EditsBytes}
@@ -42,13 +42,23 @@ module _ (P : List Place → Bool) (Q : Slice → Bool) where
   names_bytes s (delta.DirDel name) now = tt
   names_bytes s _ now = tt
 
+  gone_bytes : (b : Bool) (n : ℕ) (now : Option Value) → ValueBytes P Q (value_made (if b then Gone else Is (value.Count n)) now)
+  gone_bytes true n now = tt
+  gone_bytes false n now = tt
+
+  count_bytes : (n : ℕ) (d : Delta) (now : Option Value) → ValueBytes P Q (value_made (outcome_count n d) now)
+  count_bytes n delta.LinkAdd now = tt
+  count_bytes n delta.LinkSub now = gone_bytes (nat_le n 2) (n - 1) now
+  count_bytes n _ now = tt
+
   module _ (hole : P [] ≡ true) where
-    -- a missing region after a change
-    none_bytes : (d : Delta) → DeltaBytes P Q d → ValueBytes P Q (value_made (outcome_region None d) None)
+    -- a missing value after a change
+    none_bytes : (d : Delta) → DeltaBytes P Q d → ValueBytes P Q (value_made (outcome_none d) None)
     none_bytes (delta.Push e) h = pushed_bytes P Q None e (RegionBytes-empty P Q) h
     none_bytes (delta.PushRel ps b) h = rel_bytes (fits_at_end None ps b) (with_pieces (or_empty None) ps) None
         (with_pieces_bytes P Q (or_empty None) ps (RegionBytes-empty P Q) h) tt
     none_bytes (delta.Clip end) h = clipped_bytes P Q end None (RegionBytes-empty P Q)
+    none_bytes delta.LinkAdd h = tt
     none_bytes _ h = tt
 
     -- a region after a change
@@ -66,6 +76,7 @@ module _ (P : List Place → Bool) (Q : Slice → Bool) where
     kind_bytes (Some (value.Region v)) d h here = region_bytes v d h here
     kind_bytes (Some (value.Last n)) d h here = last_bytes n d (Some (value.Last n))
     kind_bytes (Some (value.Names s)) d h here = names_bytes s d (Some (value.Names s))
+    kind_bytes (Some (value.Count n)) d h here = count_bytes n d (Some (value.Count n))
     kind_bytes (Some (value.Node n)) d h here = tt
 
     -- a value after a change
@@ -80,6 +91,8 @@ module _ (P : List Place → Bool) (Q : Slice → Bool) where
     made_bytes now (delta.SetLast r) h here = kind_bytes now (delta.SetLast r) h here
     made_bytes now (delta.DirAdd name) h here = kind_bytes now (delta.DirAdd name) h here
     made_bytes now (delta.DirDel name) h here = kind_bytes now (delta.DirDel name) h here
+    made_bytes now delta.LinkAdd h here = kind_bytes now delta.LinkAdd h here
+    made_bytes now delta.LinkSub h here = kind_bytes now delta.LinkSub h here
 
     one_bytes : (c : Change Key Delta) (q : Key) (now : Option Value) → ValueBytes P Q now → EditBytes P Q c
         → ValueBytes P Q (after_change key_cmp outcome_of c q now)

@@ -106,6 +106,7 @@ module _ (P : List Place → Bool) (Q : Slice → Bool) where
   region_of_bytes (Some (value.Node n)) h = tt
   region_of_bytes (Some (value.Names ns)) h = tt
   region_of_bytes (Some (value.Last r)) h = tt
+  region_of_bytes (Some (value.Count n)) h = tt
   region_of_bytes (Some (value.Region v)) h = h
 
   pub file_bytes : (i : InodeId) (w : Map) → MapBytes P Q w → FileBytes P Q (file_of i w)

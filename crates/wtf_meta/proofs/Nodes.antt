@@ -18,6 +18,7 @@ node_of-is None n e = absurd (cc)
 node_of-is (Some (value.Node m)) n e = let same : m ≡ n = cc in ap (λ x. Some (value.Node x)) same
 node_of-is (Some (value.Names s)) n e = absurd (cc)
 node_of-is (Some (value.Last r)) n e = absurd (cc)
+node_of-is (Some (value.Count c)) n e = absurd (cc)
 node_of-is (Some (value.Region g)) n e = absurd (cc)
 
 -- a file of the tree, and what the map has of it
@@ -37,6 +38,7 @@ module _ (b : ℕ) (told : Told) (w : Map) where
   node-missing (Some (value.Node n)) o at e = absurd (cc)
   node-missing (Some (value.Names s)) o at e = absurd at
   node-missing (Some (value.Last r)) o at e = absurd at
+  node-missing (Some (value.Count n)) o at e = absurd at
   node-missing (Some (value.Region g)) o at e = absurd at
 
   -- and a value is missing there
@@ -50,6 +52,7 @@ module _ (b : ℕ) (told : Told) (w : Map) where
   node-none (Some (value.Node (FileNode i))) (Some (File paths bytes)) at e = absurd (cc)
   node-none (Some (value.Names s)) o at e = absurd at
   node-none (Some (value.Last r)) o at e = absurd at
+  node-none (Some (value.Count n)) o at e = absurd at
   node-none (Some (value.Region g)) o at e = absurd at
 
   pub node-folder : (v : Option Value) (o : Option TreeNode) → NodeAt b told w v o → v ≡ Some (value.Node Folder) → o ≡ Some Dir
@@ -88,6 +91,7 @@ node-stays b told old new (Some (value.Node (FileNode i))) (Some Dir) stays at =
 node-stays b told old new (Some (value.Node (FileNode i))) (Some (File paths bytes)) stays at = stays i paths bytes refl at
 node-stays b told old new (Some (value.Names s)) o stays at = absurd at
 node-stays b told old new (Some (value.Last r)) o stays at = absurd at
+node-stays b told old new (Some (value.Count n)) o stays at = absurd at
 node-stays b told old new (Some (value.Region g)) o stays at = absurd at
 
 pub node-kept : (b : ℕ) (told : Told) (old new : Map) (v x : Option Value) (o y : Option TreeNode)
@@ -113,6 +117,7 @@ module _ (t : Tree) (p : List ℕ) where
   names-listed (Some (value.Names s)) (Some Dir) at e = record { names = s; is = refl; listing = at }
   names-listed (Some (value.Names s)) (Some (File paths bytes)) at e = absurd at
   names-listed (Some (value.Last r)) o at e = absurd at
+  names-listed (Some (value.Count n)) o at e = absurd at
   names-listed (Some (value.Region g)) o at e = absurd at
 
   -- what is no directory has no names
@@ -123,6 +128,7 @@ module _ (t : Tree) (p : List ℕ) where
   names-missing (Some (value.Names s)) (Some Dir) at other = absurd (other refl)
   names-missing (Some (value.Names s)) (Some (File paths bytes)) at other = absurd at
   names-missing (Some (value.Last r)) o at other = absurd at
+  names-missing (Some (value.Count n)) o at other = absurd at
   names-missing (Some (value.Region g)) o at other = absurd at
 
   pub names-of_listing : (v : Option Value) (o : Option TreeNode) (names : NamesOf) → v ≡ Some (value.Names names) → o ≡ Some Dir → IsListing t p names

@@ -132,8 +132,7 @@ Clears-punched b ds off n m pos is within p = record {
 pub Punches-part : (b off done r from upto : ℕ) (ds : List FileEdit) → 0 < b → b < 2 ^ 32 → from ≤ upto → upto ≤ b → r * b + from ≡ off + done
     → Punches b ds off done
     → Punches b (ds ++ ZeroWithin r from upto ∷ []) off (done + (upto - from))
-Punches-part b off done r from upto ds pos small le within at punches =
-    Punches-join b ds (ZeroWithin r from upto ∷ []) off done (upto - from) punches
+Punches-part b off done r from upto ds pos small le within at punches = Punches-join b ds (ZeroWithin r from upto ∷ []) off done (upto - from) punches
     (Punches-zero b r from upto (off + done) (upto - from) pos small (omega arith) within at)
 
 -- no byte lies past the greatest length

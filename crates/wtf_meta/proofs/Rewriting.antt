@@ -1,38 +1,33 @@
 -- Maps that stand for trees, and go on standing for them where the bytes of one file change.
-use Rattle.std.proofs.Common.{◌≡◌, ◌≢◌, ◌⊎◌, ℕ, ◌+◌, ◌≤◌, true, List, Option, None, Some, refl, sym, ◌∙◌, subst, ⊎_elim, arith, inl, inr}
-use Rattle.std.specs.Prelude.{IsSome}
+use Rattle.std.proofs.Common.{◌≡◌, ◌≢◌, ◌⊎◌, ℕ, ◌+◌, ◌≤◌, true, List, None, Some, refl, sym, ◌∙◌, subst, ⊎_elim, arith, inl, inr}
 use Rattle.std.proofs.lemmas.Bool.{cases_Bool, true≢false}
-use Rattle.std.specs.FinMap.{get}
+use Rattle.std.specs.FinMap.{get, len}
 use Rattle.wtf_base.specs.declared.ids.InodeId.{InodeId}
 use Rattle.wtf_model.specs.Tree.{PathSet, has_path, Tree, File, IsTree, paths_of, paths_at}
 use Rattle.wtf_model.specs.Done.{refiled}
 use Rattle.wtf_model.proofs.RefileLaws.{IsTree-refiled, may-bytes}
-use Rattle.wtf_values.specs.declared.key.Key.TheVariants.{Path, Dir as DirKey, Inode, Region}
-use Rattle.wtf_values.specs.declared.value.Value.{Value}
+use Rattle.wtf_values.specs.declared.key.Key.TheVariants.{Path, Dir as DirKey, Inode, Region, Links}
 use Rattle.wtf_meta.specs.Maps.{Map, with}
 use Rattle.wtf_meta.specs.Bytes.{MapBytes, EditsBytes}
 use Rattle.wtf_meta.specs.Contents.{Told, is_told, is_listed}
-use Rattle.wtf_meta.specs.FileEdits.{FileEdit, edits_of, IsLast}
+use Rattle.wtf_meta.specs.FileEdits.{FileEdit, IsLast, edits_of}
 use Rattle.wtf_meta.specs.Trees.{LeadsTo, IsBody, NamesAt, Stands, Own}
 use Rattle.wtf_meta.proofs.Nodes.{FileAt}
 use Rattle.wtf_meta.proofs.Listings.{HaveNames}
-use Rattle.wtf_meta.proofs.Frame.{paths_stay, dirs_stay, inodes_stay, regions_stay}
+use Rattle.wtf_meta.proofs.Frame.{paths_stay, dirs_stay, inodes_stay, regions_stay, links_stay}
 use Rattle.wtf_meta.proofs.MapBytes.{with_bytes}
 use Rattle.wtf_meta.proofs.KeyPuts.{one_inode}
-use Rattle.wtf_meta.proofs.Standing.{leads-file}
-use Rattle.wtf_meta.proofs.Shapes.{AreAlike, file-there, names-alike}
+use Rattle.wtf_meta.proofs.Standing.{last_some, leads-file}
+use Rattle.wtf_meta.proofs.Shapes.{AreAlike, file-there, names-alike, len-alike}
 use Rattle.wtf_meta.proofs.Refiling.{Refile, IsRefiledTree, IsRefiledPaths, IsRefiledTree-refiled, stands-refiled}
 
--- of all keys those of one inode alone change
+-- of all keys those of the bytes of one inode alone change
 pub record ChangesFile (i : InodeId) (w new : Map) : Type 0 where
   pub paths : (q : List ℕ) → new (Path q) ≡ w (Path q)
   pub dirs : (q : List ℕ) → new (DirKey q) ≡ w (DirKey q)
   pub inodes : (j : InodeId) → j ≢ i → new (Inode j) ≡ w (Inode j)
   pub regions : (j : InodeId) (r : ℕ) → j ≢ i → new (Region j r) ≡ w (Region j r)
-
-last_some : (v : Option Value) → IsLast v → IsSome v
-last_some None h = absurd h
-last_some (Some v) h = refl
+  pub counts : (j : InodeId) → new (Links j) ≡ w (Links j)
 
 module _ (b : ℕ) (told : Told) (tx k : ℕ) (w : Map) (t : Tree) (st : Stands b told tx k w t) (p : List ℕ) (i : InodeId) (leads : LeadsTo w p i) where
   there : FileAt b told w i (get t p)
@@ -74,7 +69,6 @@ module _ (b : ℕ) (told : Told) (tx k : ℕ) (w : Map) (t : Tree) (st : Stands 
         lead = there.file.lead;
         all = there.file.all;
         free = λ q here never. absurd (true≢false (sym here ∙ never));
-        alone = λ x y one two. st.apart x y i (there.file.lead x one) (there.file.lead y two);
         here = λ q has. changes.paths q ∙ there.file.lead q has;
         gone = λ q no was. absurd (true≢false (sym was ∙ no));
         rest = λ q no never. changes.paths q;
@@ -84,11 +78,15 @@ module _ (b : ℕ) (told : Told) (tx k : ℕ) (w : Map) (t : Tree) (st : Stands 
       stands_rebodied m more tree body told_bytes =
           stands-refiled b told (rewritten bytes) w new paths_lead (record {
             body = λ q has. body;
+            count = λ q has. changes.counts i ∙ there.file.count;
             some = λ some. (p, there.file.all p leads);
             owned = λ r some. last_some (new (Inode i)) body.has.inode;
+            counted = λ some. last_some (new (Inode i)) body.has.inode;
             inodes = changes.inodes;
             regions = changes.regions;
+            counts = λ j other. changes.counts j;
           }) t u is tx k m st more (λ own less. absurd (not_later m more own (omega arith))) tree have told_bytes
+          (let no_more : len u ≤ len t = len-alike t u alike in omega (arith, no_more, st.few, more))
 
     -- the map stands for the tree that has these bytes at all paths of the file; m calls have been made, or as many as before
     pub stands-rebytes : (m : ℕ) → k ≤ m → (bytes : List ℕ) → IsBody b told new i bytes → MapBytes (is_told told) (is_listed b told) new
@@ -121,6 +119,7 @@ module _ (b : ℕ) (told : Told) (tx k : ℕ) (w : Map) (t : Tree) (st : Stands 
       dirs = λ q. dirs_stay i ds w q;
       inodes = λ j other. inodes_stay i j ds w (λ e. other (sym e));
       regions = λ j r other. regions_stay i j r ds w (λ e. other (sym e));
+      counts = λ j. links_stay i j ds w;
     }
 
     -- no inode comes

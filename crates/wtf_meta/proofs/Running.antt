@@ -100,8 +100,7 @@ module _ (x : Caller) (b : Map) (s t : SessionView) (did more : Did) (ops : List
         let fits = Fits-parts key_cmp outcome_of did.edits more.edits w fit in
         let tell = TellFacts-parts told did.facts more.facts facts in
         let read = TellLists-parts (lists_in x.size told) did.lists more.lists lists in
-        let ran = run.acts told w tree keys.0 fits.0 tell.0 read.0 stands in
-        ran_on told w tree ran
+        let ran = run.acts told w tree keys.0 fits.0 tell.0 read.0 stands in ran_on told w tree ran
         (one.acts told (with did.edits w) (session_after (cap_for x) tree ops)
         (Agree-over key_cmp outcome_of more.keys did.edits b w keys.1) fits.1 tell.1 read.1 ran.stands ran.holds);
     feet = λ told w tree agree fit facts lists stands.
@@ -109,8 +108,7 @@ module _ (x : Caller) (b : Map) (s t : SessionView) (did more : Did) (ops : List
         let fits = Fits-parts key_cmp outcome_of did.edits more.edits w fit in
         let tell = TellFacts-parts told did.facts more.facts facts in
         let read = TellLists-parts (lists_in x.size told) did.lists more.lists lists in
-        let ran = run.acts told w tree keys.0 fits.0 tell.0 read.0 stands in
-        feet_ran w tree (run.feet told w tree keys.0 fits.0 tell.0 read.0 stands)
+        let ran = run.acts told w tree keys.0 fits.0 tell.0 read.0 stands in feet_ran w tree (run.feet told w tree keys.0 fits.0 tell.0 read.0 stands)
         (one.feet told (with did.edits w) (session_after (cap_for x) tree ops)
         (Agree-over key_cmp outcome_of more.keys did.edits b w keys.1) fits.1 tell.1 read.1 ran.stands ran.holds);
   }

@@ -52,6 +52,7 @@ module _ (set : Place → Bool) where
   set_from (Some (value.Node n)) q h has = absurd has
   set_from (Some (value.Names ns)) q h has = absurd has
   set_from (Some (value.Last r)) q h has = absurd has
+  set_from (Some (value.Count n)) q h has = absurd has
   set_from (Some (value.Region v)) q h has = elim has [
     | inl base ↦ base_from v.base q h.base base
     | inr entry ↦ list_from v.list q h.entries entry
@@ -62,6 +63,7 @@ module _ (set : Place → Bool) where
   set_to (Some (value.Node n)) h = tt
   set_to (Some (value.Names ns)) h = tt
   set_to (Some (value.Last r)) h = tt
+  set_to (Some (value.Count n)) h = tt
   set_to (Some (value.Region v)) h = record { base = base_to v.base (λ q has. h q (inl has)); entries = list_to v.list (λ q has. h q (inr has)) }
 
   pub set_has : (v : Option Value) → ValueBytes (are_in set) any_slice v ↔ ((q : Place) → ValueHas v q → set q ≡ true)

@@ -1,10 +1,11 @@
 -- Trees of one shape: they have something at the same paths, and directories at the same. Their directories have the same names.
-use Rattle.std.proofs.Common.{◌≡◌, ◌⊎◌, ℕ, List, Option, None, Some, is_some, true, false, refl, sym, ap, ◌∙◌, subst, inl, inr, ⊎_elim}
+use Rattle.std.proofs.Common.{◌≡◌, ◌⊎◌, ℕ, ◌≤◌, List, Option, None, Some, is_some, true, false, refl, sym, ap, ◌∙◌, subst, inl, inr, ⊎_elim}
 use Rattle.std.specs.Prelude.{⊤}
 use Rattle.std.proofs.lemmas.Bool.{cases_Bool, true≢false}
-use Rattle.std.specs.FinMap.{get, insert, remove}
+use Rattle.std.specs.FinMap.{get, insert, remove, len}
 use Rattle.wtf_model.specs.Tree.{PathSet, only_path, has_path, with_path, without_path, Tree, TreeNode, Dir, File, IsTree}
 use Rattle.wtf_model.specs.Done.{refiled}
+use Rattle.wtf_model.proofs.Sizes.{len-within}
 use Rattle.wtf_model.proofs.Laws.{get-node_same, get-node_other}
 use Rattle.wtf_model.proofs.TreeLaws.{same_or_other, get-taken_same, get-taken_other}
 use Rattle.wtf_model.proofs.PathLaws.{in-with, out-with, in-without, out-without, get-refiled_in, get-refiled_gone, get-refiled_out}
@@ -40,6 +41,10 @@ module _ (t u : Tree) (alike : AreAlike t u) where
     | inl same ↦ ap is_some same
     | inr files ↦ file_some (get u q) files.1 ∙ sym (file_some (get t q) files.0)
   ]
+
+  -- one has no more paths than the other
+  pub len-alike : len u ≤ len t
+  len-alike = len-within u t (λ q here. sym (same_some q) ∙ here)
 
   dir_to : (q : List ℕ) → get t q ≡ Some Dir → get u q ≡ Some Dir
   dir_to q e = elim (alike q) [
@@ -90,6 +95,30 @@ alike-dropped t p paths bytes tree file q =
     ∙ sym (get-taken_other t p q (λ e. true≢false (sym shared.own ∙ ap (has_path paths) (sym e) ∙ never))))
     (out-without paths p q no)))
     (cases_Bool (has_path (without_path paths p) q))
+
+-- a file that has got a path, beside one that was put there
+pub alike-added : (t : Tree) (p q : List ℕ) (paths : PathSet) (bytes : List ℕ) → IsTree t → get t p ≡ Some (File paths bytes)
+    → AreAlike (insert t q (File (only_path q) bytes)) (refiled t paths (with_path paths q) bytes)
+alike-added t p q paths bytes tree file z =
+    let now : PathSet = with_path paths q in
+    let u : Tree = refiled t paths now bytes in
+    let v : Tree = insert t q (File (only_path q) bytes) in
+    let shared = tree.shared p paths bytes file in
+    ⊎_elim
+    (λ here. inr (
+      ⊎_elim
+          (λ same. file-there (get v z) (File (only_path q) bytes) (ap (get v) same ∙ get-node_same t q (File (only_path q) bytes)) tt)
+          (λ other. ⊎_elim
+          (λ same. absurd (other same))
+          (λ has. file-there (get v z) (File paths bytes) (get-node_other t q (File (only_path q) bytes) z other ∙ shared.each z has) tt)
+          (in-with paths q z here))
+          (same_or_other z q),
+      file-there (get u z) (File now bytes) (get-refiled_in t paths now bytes z here) tt,
+    ))
+    (λ no.
+    let parts = out-with paths q z no in
+    inl (get-refiled_out t paths now bytes z no parts.1 ∙ sym (get-node_other t q (File (only_path q) bytes) z parts.0)))
+    (cases_Bool (has_path now z))
 
 -- a file of which one path has become another, beside one that was taken out and put there
 pub alike-moved : (t : Tree) (p q : List ℕ) (paths : PathSet) (bytes : List ℕ) → IsTree t → get t p ≡ Some (File paths bytes)

@@ -147,8 +147,7 @@ module _ (t : Tree) (dir : List ℕ) (names : NamesOf) (tree : IsTree t) (is : I
   model_rises = sorted_names dir (entries t) (λ q h. tree.paths q (contains_key-keys t q ∙ h)) (entries_sorted t)
 
   same_members : (q : List ℕ) → has_name names q ≡ has_name (set_of (names_in t dir)) q
-  same_members q =
-      same_test (has_name names q) (among q (names_in t dir))
+  same_members q = same_test (has_name names q) (among q (names_in t dir))
       (λ has.
       let found = is.only q has in
       ap (λ n. among n (names_in t dir)) (sym found.2)

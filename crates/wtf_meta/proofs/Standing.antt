@@ -1,11 +1,11 @@
 -- Maps that stand for trees, and go on standing for them where paths change.
-use Rattle.std.proofs.Common.{◌≡◌, ◌≢◌, ℕ, ◌+◌, true, false, List, Option, None, Some, is_some, refl, sym, ap, ◌∙◌, subst, ⊎_elim, arith}
+use Rattle.std.proofs.Common.{◌≡◌, ◌≢◌, ℕ, ◌+◌, ◌≤◌, true, false, List, Option, None, Some, is_some, refl, sym, ap, ◌∙◌, subst, ⊎_elim, arith}
 use Rattle.std.specs.Prelude.{IsSome}
-use Rattle.std.specs.FinMap.{get}
+use Rattle.std.specs.FinMap.{get, len}
 use Rattle.wtf_base.specs.declared.ids.InodeId.{InodeId}
 use Rattle.wtf_model.specs.Tree.{PathSet, has_path, Tree, File, IsTree, paths_of, paths_at}
 use Rattle.wtf_model.proofs.TreeLaws.{same_or_other}
-use Rattle.wtf_values.specs.declared.key.Key.TheVariants.{Path, Dir as DirKey, Inode, Region}
+use Rattle.wtf_values.specs.declared.key.Key.TheVariants.{Path, Dir as DirKey, Inode, Region, Links}
 use Rattle.wtf_values.specs.declared.value.Node.TheVariants.{File as FileNode}
 use Rattle.wtf_values.specs.declared.value.Value.{Value}
 use Rattle.wtf_values.specs.declared.value.Value.TheVariants as value
@@ -24,7 +24,11 @@ some_is v x e h = subst (λ o. IsSome o) e h
 pub none_not : (v : Option Value) → v ≡ None → IsSome v → ⊥
 none_not v e h = let bad : false ≡ true = sym (ap is_some e) ∙ h in cc
 
-none_by : (v : Option Value) → (IsSome v → ⊥) → v ≡ None
+pub last_some : (v : Option Value) → IsLast v → IsSome v
+last_some None h = absurd h
+last_some (Some v) h = refl
+
+pub none_by : (v : Option Value) → (IsSome v → ⊥) → v ≡ None
 none_by None h = refl
 none_by (Some v) h = absurd (h refl)
 
@@ -43,11 +47,12 @@ module _ (b : ℕ) (told : Told) (tx k : ℕ) (w : Map) (t : Tree) (st : Stands 
     tree_is = st.tree_is;
     nodes = st.nodes;
     names = st.names;
-    apart = st.apart;
     led = st.led;
     regions = st.regions;
+    counted = st.counted;
     bytes = st.bytes;
     fresh = λ i own le. st.fresh i own (omega arith);
+    few = omega (arith, st.few);
   }
 
   -- the file to which a path leads
@@ -74,14 +79,19 @@ module _ (b : ℕ) (told : Told) (tx k : ℕ) (w : Map) (t : Tree) (st : Stands 
   pub no-regions : (i : InodeId) → w (Inode i) ≡ None → (r : ℕ) → w (Region i r) ≡ None
   no-regions i none r = none_by (w (Region i r)) (λ some. none_not (w (Inode i)) none (st.regions i r some))
 
+  pub no-count : (i : InodeId) → w (Inode i) ≡ None → w (Links i) ≡ None
+  no-count i none = none_by (w (Links i)) (λ some. none_not (w (Inode i)) none (st.counted i some))
+
   -- what stands at a path comes or goes, and no file does
   pub stands-directory : (new : Map) (p : List ℕ) (u : Tree)
       → ((i : InodeId) → LeadsTo w p i → ⊥) → ((i : InodeId) → LeadsTo new p i → ⊥)
       → NodeAt b told new (new (Path p)) (get u p)
       → ((q : List ℕ) → q ≢ p → (new (Path q) ≡ w (Path q)) × (get u q ≡ get t q))
       → ((i : InodeId) → new (Inode i) ≡ w (Inode i)) → ((i : InodeId) (r : ℕ) → new (Region i r) ≡ w (Region i r))
-      → IsTree u → HaveNames u (λ d. new (DirKey d)) → MapBytes (is_told told) (is_listed b told) new → Stands b told tx (k + 1) new u
-  stands-directory new p u was is here others inodes regions tree names bytes =
+      → ((i : InodeId) → new (Links i) ≡ w (Links i))
+      → IsTree u → HaveNames u (λ d. new (DirKey d)) → MapBytes (is_told told) (is_listed b told) new → len u ≤ len t + 1
+      → Stands b told tx (k + 1) new u
+  stands-directory new p u was is here others inodes regions counts tree names bytes more =
       let before : (q : List ℕ) (i : InodeId) → LeadsTo new q i → LeadsTo w q i = λ q i leads.
       sym (others q (λ e. is i (subst (λ x. LeadsTo new x i) e leads))).0 ∙ leads in
       let after : (q : List ℕ) (i : InodeId) → LeadsTo w q i → LeadsTo new q i = λ q i leads.
@@ -95,16 +105,19 @@ module _ (b : ℕ) (told : Told) (tx k : ℕ) (w : Map) (t : Tree) (st : Stands 
               body = body-stays b told w new i bs (inodes i) (regions i) file.body;
               lead = λ r has. after r i (file.lead r has);
               all = λ r to. file.all r (before r i to);
+              count = counts i ∙ file.count;
             })
             (others q other).0 (others q other).1 (st.nodes q))
             (same_or_other q p);
         names = names;
-        apart = λ q r i one two. st.apart q r i (before q i one) (before r i two);
         led = λ i some.
             let found = st.led i (some_is (new (Inode i)) (w (Inode i)) (inodes i) some) in
             (found.0, after found.0 i found.1);
         regions = λ i r some. some_is (w (Inode i)) (new (Inode i)) (sym (inodes i))
             (st.regions i r (some_is (new (Region i r)) (w (Region i r)) (regions i r) some));
+        counted = λ i some. some_is (w (Inode i)) (new (Inode i)) (sym (inodes i))
+            (st.counted i (some_is (new (Links i)) (w (Links i)) (counts i) some));
         bytes = bytes;
         fresh = λ i own le. inodes i ∙ st.fresh i own (omega arith);
+        few = omega (arith, st.few, more);
       }

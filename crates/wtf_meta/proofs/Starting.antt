@@ -1,27 +1,28 @@
 -- The first map: the root alone.
-use Rattle.std.proofs.Common.{◌≡◌, ◌≢◌, ◌⊎◌, ℕ, true, false, List, Option, None, Some, is_some, sym, ap, ◌∙◌, subst, ⊎_elim, inl, inr}
+use Rattle.std.proofs.Common.{◌≡◌, ◌≢◌, ◌⊎◌, ℕ, true, false, List, Option, None, Some, is_some, sym, ap, ◌∙◌, subst, ⊎_elim, inl, inr, arith}
 use Rattle.std.specs.Prelude.{IsSome}
 use Rattle.std.specs.FinMap.{get, empty, get-empty}
 use Rattle.std.specs.Ordering.{nat_cmp}
 use Rattle.std.specs.Cmp.Lexicographic.{slice_cmp}
-use Rattle.wtf_base.specs.declared.ids.InodeId.{InodeId}
 use Rattle.wtf_path.specs.Parts.{parent_of}
 use Rattle.wtf_model.specs.Tree.{Dir, root, root_alone}
+use Rattle.wtf_model.proofs.Sizes.{len-root}
 use Rattle.wtf_model.proofs.Laws.{get-node_same, get-node_other}
 use Rattle.wtf_model.proofs.TreeLaws.{same_or_other, IsTree-root_alone}
 use Rattle.wtf_values.specs.declared.key.Key.{Key}
-use Rattle.wtf_values.specs.declared.key.Key.TheVariants.{Path, Dir as DirKey, Inode, Region}
-use Rattle.wtf_values.specs.declared.value.Node.TheVariants.{Folder, File as FileNode}
+use Rattle.wtf_values.specs.declared.key.Key.TheVariants.{Path, Dir as DirKey, Inode, Region, Links}
+use Rattle.wtf_values.specs.declared.value.Node.TheVariants.{Folder}
 use Rattle.wtf_values.specs.declared.value.Value.{Value}
 use Rattle.wtf_values.specs.declared.value.Value.TheVariants as value
 use Rattle.wtf_values.specs.Names.{no_names}
 use Rattle.wtf_meta.specs.Maps.{Map}
 use Rattle.wtf_meta.specs.Bytes.{ValueBytes}
 use Rattle.wtf_meta.specs.Contents.{Told, is_told, is_listed}
-use Rattle.wtf_meta.specs.Trees.{LeadsTo, NodeAt, NamesAt, Stands, IsFirst}
+use Rattle.wtf_meta.specs.Trees.{NodeAt, NamesAt, Stands, IsFirst}
 use Rattle.wtf_meta.proofs.Nodes.{node-put, node-taken, names-of_listing, names-of_none}
 use Rattle.wtf_meta.proofs.Listings.{listing-none}
 
+-- the tree before its root
 gone : (q : List ℕ) → q ≢ root → get root_alone q ≡ None
 gone q other = get-node_other empty root Dir q other ∙ get-empty (slice_cmp nat_cmp) q
 
@@ -33,20 +34,10 @@ alone : (q : List ℕ) → (q ≡ root) ⊎ (q ≢ root) → IsSome (get root_al
 alone q (inl same) some up = let none : None ≡ Some root = subst (λ x. parent_of x ≡ Some root) same up in cc
 alone q (inr other) some up = let bad : false ≡ true = sym (ap is_some (gone q other)) ∙ some in cc
 
-folder_leads : (v : Option Value) (i : InodeId) → v ≡ Some (value.Node Folder) → v ≡ Some (value.Node (FileNode i)) → ⊥
-folder_leads v i a c = let both : Some (value.Node Folder) ≡ Some (value.Node (FileNode i)) = sym a ∙ c in cc
-
-none_leads : (v : Option Value) (i : InodeId) → v ≡ None → v ≡ Some (value.Node (FileNode i)) → ⊥
-none_leads v i a c = let both : None ≡ Some (value.Node (FileNode i)) = sym a ∙ c in cc
-
 none_some : (v : Option Value) → v ≡ None → IsSome v → ⊥
 none_some v e some = let bad : false ≡ true = sym (ap is_some e) ∙ some in cc
 
 module _ (b : ℕ) (told : Told) (tx k : ℕ) (w : Map) (first : IsFirst w) where
-  leads_none : (q : List ℕ) (i : InodeId) → (q ≡ root) ⊎ (q ≢ root) → LeadsTo w q i → ⊥
-  leads_none q i (inl same) leads = folder_leads (w (Path root)) i first.top (subst (λ x. LeadsTo w x i) same leads)
-  leads_none q i (inr other) leads = none_leads (w (Path q)) i (first.paths q other) leads
-
   value_told : (q : Key) → ValueBytes (is_told told) (is_listed b told) (w q)
   value_told (Path q) = ⊎_elim
       (λ same. subst (λ v. ValueBytes (is_told told) (is_listed b told) v) (sym (subst (λ x. w (Path x) ≡ Some (value.Node Folder)) (sym same) first.top)) tt)
@@ -59,6 +50,7 @@ module _ (b : ℕ) (told : Told) (tx k : ℕ) (w : Map) (first : IsFirst w) wher
       (same_or_other q root)
   value_told (Inode i) = subst (λ v. ValueBytes (is_told told) (is_listed b told) v) (sym (first.inodes i)) tt
   value_told (Region i r) = subst (λ v. ValueBytes (is_told told) (is_listed b told) v) (sym (first.regions i r)) tt
+  value_told (Links i) = subst (λ v. ValueBytes (is_told told) (is_listed b told) v) (sym (first.counts i)) tt
 
   -- a map with the root alone stands for the tree with the root alone
   pub stands-first : Stands b told tx k w root_alone
@@ -76,9 +68,10 @@ module _ (b : ℕ) (told : Told) (tx k : ℕ) (w : Map) (first : IsFirst w) wher
         (λ other. names-of_none root_alone q (w (DirKey q)) (get root_alone q) (first.dirs q other)
         (λ e. let both : None ≡ Some Dir = sym (gone q other) ∙ e in cc))
         (same_or_other q root);
-    apart = λ q r i one two. absurd (leads_none q i (same_or_other q root) one);
     led = λ i some. absurd (none_some (w (Inode i)) (first.inodes i) some);
     regions = λ i r some. absurd (none_some (w (Region i r)) (first.regions i r) some);
+    counted = λ i some. absurd (none_some (w (Links i)) (first.counts i) some);
     bytes = value_told;
     fresh = λ i own le. first.inodes i;
+    few = omega (arith, len-root);
   }

@@ -10,7 +10,7 @@ use Rattle.wtf_kv.specs.Edits.{value_made, after_change}
 use Rattle.wtf_overlay.specs.declared.part.Entry.{Entry}
 use Rattle.wtf_overlay.specs.declared.part.Piece.{Piece}
 use Rattle.wtf_values.specs.declared.key.Key.{Key}
-use Rattle.wtf_values.specs.declared.key.Key.TheVariants.{Path, Dir, Inode, Region}
+use Rattle.wtf_values.specs.declared.key.Key.TheVariants.{Path, Dir, Inode, Region, Links}
 use Rattle.wtf_values.specs.declared.region.RegionValue.{RegionValue}
 use Rattle.wtf_values.specs.declared.value.Value.{Value}
 use Rattle.wtf_values.specs.declared.value.Value.TheVariants as value
@@ -37,6 +37,7 @@ by_region P none some None h = none
 by_region P none some (Some (value.Region v)) h = some v
 by_region P none some (Some (value.Last n)) h = absurd h
 by_region P none some (Some (value.Names s)) h = absurd h
+by_region P none some (Some (value.Count n)) h = absurd h
 by_region P none some (Some (value.Node n)) h = absurd h
 
 -- and what an inode's key has is the number of its last region
@@ -45,6 +46,7 @@ by_last P last None h = absurd h
 by_last P last (Some (value.Region v)) h = absurd h
 by_last P last (Some (value.Last n)) h = last n
 by_last P last (Some (value.Names s)) h = absurd h
+by_last P last (Some (value.Count n)) h = absurd h
 by_last P last (Some (value.Node n)) h = absurd h
 
 -- what a delta makes of a region's value, by what it does to regions
@@ -60,6 +62,7 @@ region_apart i r q differ e = differ (sym (ap number e))
     number (Dir p) = 0
     number (Inode j) = 0
     number (Region j s) = s
+    number (Links j) = 0
 
 at_region : (i : InodeId) (r : ℕ) (w : Map) (d : Delta) → step (change.Delta (Region i r) d) w (Region i r) ≡ made (w (Region i r)) d
 at_region i r w d = cond-true (is_at (key_cmp (Region i r)) (Region i r)) _ _ (at_itself (Region i r))

@@ -43,6 +43,7 @@ module _ (P R : List Place → Bool) (places : (ps : List Place) → P ps ≡ tr
     value_stays (Some (value.Node n)) h = tt
     value_stays (Some (value.Names ns)) h = tt
     value_stays (Some (value.Last r)) h = tt
+    value_stays (Some (value.Count n)) h = tt
     value_stays (Some (value.Region v)) h = record { base = base_stays v.base h.base; entries = entries_stay v.list h.entries }
 
     pub map_stays : (w : Map) → MapBytes P Q w → MapBytes R O w

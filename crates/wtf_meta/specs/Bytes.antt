@@ -67,6 +67,7 @@ module _ (P : List Place → Bool) (Q : Slice → Bool) where
   ValueBytes (Some (value.Node n)) = ⊤
   ValueBytes (Some (value.Names ns)) = ⊤
   ValueBytes (Some (value.Last r)) = ⊤
+  ValueBytes (Some (value.Count n)) = ⊤
   ValueBytes (Some (value.Region v)) = RegionBytes v
 
   -- and of all bytes of a map

@@ -6,10 +6,10 @@ use Rattle.wtf_kv.specs.declared.changes.Change.{Change}
 use Rattle.wtf_kv.specs.declared.changes.Change.TheVariants as change
 use Rattle.wtf_kv.specs.Edits.{is_between, first_unfit}
 use Rattle.wtf_model.specs.declared.item.Item.{Item}
-use Rattle.wtf_model.specs.declared.item.Item.TheVariants.{NodeOf, NamesOf, BodyOf}
+use Rattle.wtf_model.specs.declared.item.Item.TheVariants.{NodeOf, NamesOf, BodyOf, LinksOf}
 use Rattle.wtf_model.specs.Items.{is_among}
 use Rattle.wtf_values.specs.declared.key.Key.{Key}
-use Rattle.wtf_values.specs.declared.key.Key.TheVariants.{Path, Dir, Inode, Region}
+use Rattle.wtf_values.specs.declared.key.Key.TheVariants.{Path, Dir, Inode, Region, Links}
 use Rattle.wtf_values.specs.declared.value.Delta.{Delta}
 use Rattle.wtf_values.specs.Keys.{key_cmp}
 use Rattle.wtf_values.specs.Outcomes.{outcome_of}
@@ -26,12 +26,20 @@ pub record BodyRead (old : Map) (reads : List Item) (i : InodeId) : Type 0 where
   pub leads : LeadsTo old path i
   pub body : Has (BodyOf path) reads
 
--- and what stands there too: from there the file got another path
+-- one that led to it, and of which it was read what stands there, and how many paths the file has
+pub record LinksRead (old : Map) (reads : List Item) (i : InodeId) : Type 0 where
+  pub path : List ℕ
+  pub leads : LeadsTo old path i
+  pub node : Has (NodeOf path) reads
+  pub links : Has (LinksOf path) reads
+
+-- and one of which all this was read: from there the file got another path
 pub record FileRead (old : Map) (reads : List Item) (i : InodeId) : Type 0 where
   pub path : List ℕ
   pub leads : LeadsTo old path i
   pub node : Has (NodeOf path) reads
   pub body : Has (BodyOf path) reads
+  pub links : Has (LinksOf path) reads
 
 -- a key belongs to an item that was read, or it is of an inode of the transaction itself
 abbrev pub ReadBy : ℕ → Map → List Item → Key → Type 0
@@ -39,13 +47,16 @@ ReadBy tx old reads (Path p) = Has (NodeOf p) reads
 ReadBy tx old reads (Dir p) = Has (NamesOf p) reads
 ReadBy tx old reads (Inode i) = (i.tx.0 ≡ tx) ⊎ BodyRead old reads i
 ReadBy tx old reads (Region i r) = (i.tx.0 ≡ tx) ⊎ BodyRead old reads i
+ReadBy tx old reads (Links i) = (i.tx.0 ≡ tx) ⊎ LinksRead old reads i
 
--- a key belongs to an item that was written: that of a file by each path that led to it
+-- a key belongs to an item that was written: that of a file by each path that led to it, and how many they are by what stands
+-- there as well
 abbrev pub WrittenBy : Map → List Item → Key → Type 0
 WrittenBy old writes (Path p) = Has (NodeOf p) writes
 WrittenBy old writes (Dir p) = Has (NamesOf p) writes
 WrittenBy old writes (Inode i) = (q : List ℕ) → LeadsTo old q i → Has (BodyOf q) writes
 WrittenBy old writes (Region i r) = (q : List ℕ) → LeadsTo old q i → Has (BodyOf q) writes
+WrittenBy old writes (Links i) = (q : List ℕ) → LeadsTo old q i → Has (NodeOf q) writes ⊎ Has (LinksOf q) writes
 
 abbrev pub EachRead : ℕ → Map → List Item → List Key → Type 0
 EachRead tx old reads [] = ⊤

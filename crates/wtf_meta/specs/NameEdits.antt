@@ -6,7 +6,7 @@ use Rattle.wtf_kv.specs.declared.changes.Change.{Change}
 use Rattle.wtf_kv.specs.declared.changes.Change.TheVariants as change
 use Rattle.wtf_path.specs.Parts.{name_of}
 use Rattle.wtf_values.specs.declared.key.Key.{Key}
-use Rattle.wtf_values.specs.declared.key.Key.TheVariants.{Path, Dir, Inode, Region}
+use Rattle.wtf_values.specs.declared.key.Key.TheVariants.{Path, Dir, Inode, Region, Links}
 use Rattle.wtf_values.specs.declared.value.Node.{Node}
 use Rattle.wtf_values.specs.declared.value.Node.TheVariants.{Folder, File}
 use Rattle.wtf_values.specs.declared.value.Value.{Value}
@@ -26,6 +26,11 @@ node_of v = None
 abbrev pub names_at : Option Value → NamesOf
 names_at (Some (value.Names names)) = names
 names_at v = no_names
+
+-- how many paths a file has, by the value that tells it: one where it tells none
+abbrev pub link_count : Option Value → ℕ
+link_count (Some (value.Count n)) = n
+link_count v = 1
 
 -- something stands at a path
 abbrev pub put_at : List ℕ → Node → Change Key Delta
@@ -54,10 +59,18 @@ rmdir_edits dir p = take_at p ∷ change.Delta (Dir p) delta.Remove ∷ drop_fro
 abbrev pub create_edits : List ℕ → List ℕ → InodeId → Edits
 create_edits dir p i = put_at p (File i) ∷ change.Delta (Inode i) (delta.Put (value.Last 0)) ∷ add_to dir p ∷ []
 
--- the file p is taken out, with all its regions
+-- the last path p of a file is taken out, and the file with all its regions
 abbrev pub unlink_edits : List ℕ → List ℕ → InodeId → Edits
 unlink_edits dir p i =
     change.Cut (Region i 0) (Region i LAST_REGION) ∷ change.Delta (Inode i) delta.Remove ∷ take_at p ∷ drop_from dir p ∷ []
+
+-- a path p of a file that has others is taken out
+abbrev pub unlink_one_edits : List ℕ → List ℕ → InodeId → Edits
+unlink_one_edits dir p i = take_at p ∷ drop_from dir p ∷ change.Delta (Links i) delta.LinkSub ∷ []
+
+-- the file of an inode gets one more path q, which stands in dir
+abbrev pub link_edits : List ℕ → List ℕ → InodeId → Edits
+link_edits dir q i = put_at q (File i) ∷ add_to dir q ∷ change.Delta (Links i) delta.LinkAdd ∷ []
 
 -- the file p of the directory up becomes q of dir
 abbrev pub rename_edits : List ℕ → List ℕ → List ℕ → List ℕ → InodeId → Edits

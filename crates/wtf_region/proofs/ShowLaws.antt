@@ -210,8 +210,7 @@ reads_nothing kind down old = record { down = λ k d low. refl; lengths = λ k d
 
 pub reads_over : {S : Type 0} (kind : StoreKind S) (old mid new : Dev S) → GoesOn kind old mid [] → OnlyRead kind (between old mid)
     → OnlyRead kind (between mid new) → OnlyRead kind (between old new)
-reads_over kind old mid new each first next =
-    reads_on kind (is_down_in old) (stores old) (stores mid) (stores new) each.each.same_length first
+reads_over kind old mid new each first next = reads_on kind (is_down_in old) (stores old) (stores mid) (stores new) each.each.same_length first
     (subst (λ (down : ℕ → Bool). OnlyRead kind (span down (stores mid) (stores new))) (ap (λ r. is_down r.now) each.replicas) next)
 
 -- how far a walk over pieces has come that is to show `len` bytes from `off` on: so many are to be skipped of the pieces that
