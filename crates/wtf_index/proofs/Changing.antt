@@ -1,5 +1,6 @@
 -- The changes and the keys of a call, by the way that it takes.
-use Rattle.std.proofs.Common.{◌≡◌, ℕ, ◌++◌, cond, length, List, [], Option, None, Some, Result, Ok, Err, refl, sym, ap, ◌∙◌, subst, append-nil, eq-eqb, ne_eqb}
+use Rattle.std.proofs.Common.{◌≡◌, ℕ, ◌++◌, cond, length, List, [], ◌∷◌, Option, None, Some, Result, Ok, Err, refl, sym, ap, ◌∙◌, subst, append-nil, eq-eqb}
+use Rattle.std.proofs.Common.{ne_eqb}
 use Rattle.wtf_base.specs.declared.ids.InodeId.{InodeId}
 use Rattle.wtf_path.specs.Parts.{parent_of}
 use Rattle.wtf_occ.specs.Attempts.{Attempted, GrowsBy}
@@ -7,13 +8,14 @@ use Rattle.wtf_model.specs.declared.answer.Word.{Word}
 use Rattle.wtf_model.specs.declared.answer.Word.TheVariants.{Root, NotEmpty}
 use Rattle.wtf_model.specs.Tree.{◌>>=◌}
 use Rattle.wtf_values.specs.declared.key.Key.{Key}
+use Rattle.wtf_values.specs.declared.key.Key.TheVariants.{Links}
 use Rattle.wtf_values.specs.declared.value.Delta.{Delta}
 use Rattle.wtf_values.specs.Names.{NamesOf, names_in}
 use Rattle.wtf_meta.specs.Maps.{Map, Edits}
-use Rattle.wtf_meta.specs.NameEdits.{mkdir_edits, rmdir_edits, create_edits, unlink_edits, rename_edits}
+use Rattle.wtf_meta.specs.NameEdits.{link_count, mkdir_edits, rmdir_edits, create_edits, rename_edits, link_edits}
 use Rattle.wtf_index.specs.Checks.{target_of, source_of, directory_of, is_inner, is_bare, bare_of}
-use Rattle.wtf_index.specs.Recorded.{source_keys, target_keys, rename_keys, keys_if}
-use Rattle.wtf_index.specs.Changed.{edits_if, edits_in, mkdir_changes, create_changes, rmdir_changes, unlink_changes, rename_changes}
+use Rattle.wtf_index.specs.Recorded.{source_keys, target_keys, count_keys, unlink_keys, rename_keys, keys_if}
+use Rattle.wtf_index.specs.Changed.{edits_if, edits_in, mkdir_changes, create_changes, rmdir_changes, unlink_by, unlink_changes, rename_changes, link_changes}
 use Rattle.wtf_index.proofs.Checked.{inner}
 
 -- the same keys and changes by other names
@@ -70,16 +72,28 @@ module _ (b : Map) (p : List ℕ) where
   rmdir_some dir names up e none =
       ap goes (bare_is dir (Ok names) up e ∙ empty_is names none) ∙ ap (λ (d : Option (List ℕ)). edits_in d (λ up_dir. rmdir_edits up_dir p)) up
 
+  abbrev unlinks : Result InodeId Word → Edits
+  unlinks r = edits_if r (λ i. edits_in (parent_of p) (λ dir. unlink_by (link_count (b (Links i))) dir p i))
+
   pub unlink_none : (word : Word) → source_of b p ≡ Err word → unlink_changes b p ≡ []
-  unlink_none word e = ap (λ (r : Result InodeId Word). edits_if r (λ i. edits_in (parent_of p) (λ dir. unlink_edits dir p i))) e
+  unlink_none word e = ap unlinks e
 
   pub unlink_of_root : parent_of p ≡ None → unlink_changes b p ≡ []
-  unlink_of_root none = edits_of_root (source_of b p) (parent_of p) (λ i dir. unlink_edits dir p i) none
+  unlink_of_root none = edits_of_root (source_of b p) (parent_of p) (λ i dir. unlink_by (link_count (b (Links i))) dir p i) none
 
-  pub unlink_some : (dir : List ℕ) (i : InodeId) → parent_of p ≡ Some dir → source_of b p ≡ Ok i → unlink_changes b p ≡ unlink_edits dir p i
-  unlink_some dir i up e =
-      ap (λ (r : Result InodeId Word). edits_if r (λ j. edits_in (parent_of p) (λ d. unlink_edits d p j))) e
-      ∙ ap (λ (o : Option (List ℕ)). edits_in o (λ d. unlink_edits d p i)) up
+  pub unlink_some : (dir : List ℕ) (i : InodeId) (links : ℕ) → parent_of p ≡ Some dir → source_of b p ≡ Ok i → link_count (b (Links i)) ≡ links
+      → unlink_changes b p ≡ unlink_by links dir p i
+  unlink_some dir i links up e count =
+      ap unlinks e
+      ∙ ap (λ (o : Option (List ℕ)). edits_in o (λ d. unlink_by (link_count (b (Links i))) d p i)) up
+      ∙ ap (λ n. unlink_by n dir p i) count
+
+  -- and its keys
+  pub unlink_stops : (word : Word) → source_of b p ≡ Err word → unlink_keys b p ≡ source_keys p
+  unlink_stops word e = ap (λ (r : Result InodeId Word). source_keys p ++ count_keys r) e ∙ append-nil (source_keys p)
+
+  pub unlink_goes_on : (i : InodeId) → source_of b p ≡ Ok i → unlink_keys b p ≡ source_keys p ++ Links i ∷ []
+  unlink_goes_on i e = ap (λ (r : Result InodeId Word). source_keys p ++ count_keys r) e
 
   module _ (q : List ℕ) where
     abbrev moves : Result InodeId Word → Result (List ℕ) Word → Option (List ℕ) → Edits
@@ -103,7 +117,19 @@ module _ (b : Map) (p : List ℕ) where
         ∙ ap (λ (t : Result (List ℕ) Word). moves (Ok i) t (parent_of p)) f
         ∙ ap (λ (o : Option (List ℕ)). moves (Ok i) (Ok dir) o) above
 
-    -- and its keys
+    abbrev adds : Result InodeId Word → Result (List ℕ) Word → Edits
+    adds r t = edits_if r (λ i. edits_if t (λ dir. link_edits dir q i))
+
+    pub link_none : (word : Word) → source_of b p ≡ Err word → link_changes b p q ≡ []
+    link_none word e = ap (λ (r : Result InodeId Word). adds r (target_of b q)) e
+
+    pub link_nowhere : (i : InodeId) (word : Word) → source_of b p ≡ Ok i → target_of b q ≡ Err word → link_changes b p q ≡ []
+    link_nowhere i word e f = ap (λ (r : Result InodeId Word). adds r (target_of b q)) e ∙ ap (λ (t : Result (List ℕ) Word). adds (Ok i) t) f
+
+    pub link_some : (dir : List ℕ) (i : InodeId) → source_of b p ≡ Ok i → target_of b q ≡ Ok dir → link_changes b p q ≡ link_edits dir q i
+    link_some dir i e f = ap (λ (r : Result InodeId Word). adds r (target_of b q)) e ∙ ap (λ (t : Result (List ℕ) Word). adds (Ok i) t) f
+
+    -- and their keys
     pub rename_stops : (word : Word) → source_of b p ≡ Err word → rename_keys b p q ≡ source_keys p
     rename_stops word e = ap (λ (r : Result InodeId Word). source_keys p ++ keys_if r (target_keys b q)) e ∙ append-nil (source_keys p)
 

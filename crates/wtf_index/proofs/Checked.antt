@@ -63,6 +63,7 @@ module _ (b : ℕ) (told : Told) (w : Map) where
   parent-is (Some (value.Node (FileNode i))) (Some (File paths bytes)) at = refl
   parent-is (Some (value.Names s)) o at = absurd at
   parent-is (Some (value.Last r)) o at = absurd at
+  parent-is (Some (value.Count n)) o at = absurd at
   parent-is (Some (value.Region g)) o at = absurd at
 
   free-is : (v : Option Value) (o : Option TreeNode) → NodeAt b told w v o → as_free (node_of v) ≡ is_free o
@@ -77,6 +78,7 @@ module _ (b : ℕ) (told : Told) (w : Map) where
   free-is (Some (value.Node (FileNode i))) (Some (File paths bytes)) at = refl
   free-is (Some (value.Names s)) o at = absurd at
   free-is (Some (value.Last r)) o at = absurd at
+  free-is (Some (value.Count n)) o at = absurd at
   free-is (Some (value.Region g)) o at = absurd at
 
   directory-is : (v : Option Value) (o : Option TreeNode) → NodeAt b told w v o → as_directory (node_of v) ≡ is_directory o
@@ -91,6 +93,7 @@ module _ (b : ℕ) (told : Told) (w : Map) where
   directory-is (Some (value.Node (FileNode i))) (Some (File paths bytes)) at = refl
   directory-is (Some (value.Names s)) o at = absurd at
   directory-is (Some (value.Last r)) o at = absurd at
+  directory-is (Some (value.Count n)) o at = absurd at
   directory-is (Some (value.Region g)) o at = absurd at
 
   file-refused : (word : Word) (v : Option Value) (o : Option TreeNode) → NodeAt b told w v o → as_file (node_of v) ≡ Err word → bytes_of o ≡ Err word
@@ -103,6 +106,7 @@ module _ (b : ℕ) (told : Told) (w : Map) where
   file-refused word (Some (value.Node (FileNode i))) o at e = absurd (cc)
   file-refused word (Some (value.Names s)) o at e = absurd at
   file-refused word (Some (value.Last r)) o at e = absurd at
+  file-refused word (Some (value.Count n)) o at e = absurd at
   file-refused word (Some (value.Region g)) o at e = absurd at
 
 file-found : (n : Option Node) (i : InodeId) → as_file n ≡ Ok i → n ≡ Some (FileNode i)
@@ -148,8 +152,7 @@ pub record FolderAt (w : Map) (t : Tree) (p : List ℕ) (names : NamesOf) : Type
 module _ (b : ℕ) (told : Told) (tx k : ℕ) (w : Map) (t : Tree) (st : Stands b told tx k w t) where
   target-model : (p : List ℕ) (up : Option (List ℕ)) → (target_in w p up >>= (λ _. Ok tt)) ≡ model.target_in t p up
   target-model p None = refl
-  target-model p (Some dir) =
-      target_forget (as_parent (stands_at w dir)) (as_free (stands_at w p)) dir
+  target-model p (Some dir) = target_forget (as_parent (stands_at w dir)) (as_free (stands_at w p)) dir
       ∙ ap (λ r. r >>= (λ _. as_free (stands_at w p))) (parent-is b told w (w (Path dir)) (get t dir) (st.nodes dir))
       ∙ ap (λ r. is_parent (get t dir) >>= (λ _. r)) (free-is b told w (w (Path p)) (get t p) (st.nodes p))
 

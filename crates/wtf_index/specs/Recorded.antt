@@ -1,10 +1,11 @@
 -- The keys that each call records, in order and up to the refusal, by what the attempt saw.
 use Rattle.std.specs.Prelude.{ℕ, ◌++◌, bytes_eq, if◌then◌else◌, List, [], ◌∷◌, Option, Some, None, Result, Ok, Err}
+use Rattle.wtf_base.specs.declared.ids.InodeId.{InodeId}
 use Rattle.wtf_path.specs.Parts.{parent_of}
 use Rattle.wtf_model.specs.declared.answer.Word.{Word}
 use Rattle.wtf_model.specs.Tree.{root}
 use Rattle.wtf_values.specs.declared.key.Key.{Key}
-use Rattle.wtf_values.specs.declared.key.Key.TheVariants.{Path, Dir}
+use Rattle.wtf_values.specs.declared.key.Key.TheVariants.{Path, Dir, Links}
 use Rattle.wtf_values.specs.declared.value.Node.{Node}
 use Rattle.wtf_values.specs.declared.value.Node.TheVariants.{Folder, File}
 use Rattle.wtf_meta.specs.Maps.{Map}
@@ -36,7 +37,15 @@ rmdir_keys w p = if bytes_eq p root then [] else directory_keys w p
 abbrev pub source_keys : List ℕ → List Key
 source_keys p = Path p ∷ []
 
--- of a file that moves: the file's, and where it is one, the target's
+-- of a file that loses a path: what stands at the path, and how many the file has
+abbrev pub count_keys : Result InodeId Word → List Key
+count_keys (Ok i) = Links i ∷ []
+count_keys (Err word) = []
+
+abbrev pub unlink_keys : Map → List ℕ → List Key
+unlink_keys w p = source_keys p ++ count_keys (source_of w p)
+
+-- of a file that moves or gets one more path: the file's, and where it is one, the target's
 abbrev pub keys_if : {A : Type 0} → Result A Word → List Key → List Key
 keys_if (Ok a) ks = ks
 keys_if (Err word) ks = []

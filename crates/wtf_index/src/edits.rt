@@ -2,9 +2,10 @@
 
 ghost use Rattle.std.specs.Prelude.{[], ◌∷◌, OnOk};
 ghost use Rattle.wtf_occ.specs.Attempts.{Grows, GrowsBy};
-ghost use Rattle.wtf_meta.specs.NameEdits.{put_at, take_at, add_to, drop_from, mkdir_edits, rmdir_edits, create_edits, unlink_edits, rename_edits};
+ghost use Rattle.wtf_meta.specs.NameEdits.{put_at, take_at, add_to, drop_from, mkdir_edits, rmdir_edits, create_edits, unlink_edits, unlink_one_edits, rename_edits, link_edits};
 ghost use Rattle.wtf_meta.specs.FileEdits.{LAST_REGION};
 ghost use Rattle.wtf_values.specs.Names.{no_names};
+ghost use Rattle.wtf_index.specs.Changed.{unlink_by};
 
 use std::alloc::Global;
 use wtf_base::{InodeId, OutOfMemory};
@@ -113,6 +114,15 @@ fn cut_regions(at: &mut Attempt<Key, Value>, inode: InodeId) -> Result<(), OutOf
     at.cut_range(Key::Region(inode, 0), Key::Region(inode, u16::MAX))
 }
 
+/// One path less of a file.
+fn sub_link(at: &mut Attempt<Key, Value>, inode: InodeId) -> Result<(), OutOfMemory>
+    ensures went { OnOk result
+        (GrowsBy at.old at.new [] (Change.Delta (Key.Links inode) Delta.LinkSub ∷ [])) }
+    ensures grows { Grows at.old at.new }
+{
+    at.delta(Key::Links(inode), Delta::LinkSub)
+}
+
 /// Makes a directory at `p`, in the directory `dir`.
 pub fn make_folder(
     alloc: Global,
@@ -163,7 +173,7 @@ pub fn make_file(
 }
 
 /// Takes out the file `p` of the directory `dir`, with all its regions.
-pub fn take_file(
+fn take_file(
     alloc: Global,
     at: &mut Attempt<Key, Value>,
     dir: &Path,
@@ -178,6 +188,41 @@ pub fn take_file(
     take_at(alloc, at, p)?;
     drop_from(alloc, at, dir, p)?;
     Ok(())
+}
+
+/// Takes out the path `p`, in the directory `dir`, of a file that has others.
+fn take_name(
+    alloc: Global,
+    at: &mut Attempt<Key, Value>,
+    dir: &Path,
+    p: &Path,
+    inode: InodeId,
+) -> Result<(), OutOfMemory>
+    ensures went { OnOk result (GrowsBy at.old at.new [] (unlink_one_edits dir.now p.now inode)) }
+    ensures grows { Grows at.old at.new }
+{
+    take_at(alloc, at, p)?;
+    drop_from(alloc, at, dir, p)?;
+    sub_link(at, inode)?;
+    Ok(())
+}
+
+/// Takes out the path `p`, in the directory `dir`, of a file of so many paths; with the last one the file.
+pub fn take_path(
+    alloc: Global,
+    at: &mut Attempt<Key, Value>,
+    dir: &Path,
+    p: &Path,
+    inode: InodeId,
+    links: u64,
+) -> Result<(), OutOfMemory>
+    ensures went { OnOk result (GrowsBy at.old at.new [] (unlink_by links dir.now p.now inode)) }
+    ensures grows { Grows at.old at.new }
+{
+    if links < 2 {
+        return take_file(alloc, at, dir, p, inode);
+    }
+    take_name(alloc, at, dir, p, inode)
 }
 
 /// Moves the file `p` of the directory `up` to `q`, in the directory `dir`.
@@ -198,5 +243,31 @@ pub fn move_file(
     drop_from(alloc, at, up, p)?;
     put_at(alloc, at, q, Node::File(inode))?;
     add_to(alloc, at, dir, q)?;
+    Ok(())
+}
+
+/// One path more of a file.
+fn add_link(at: &mut Attempt<Key, Value>, inode: InodeId) -> Result<(), OutOfMemory>
+    ensures went { OnOk result
+        (GrowsBy at.old at.new [] (Change.Delta (Key.Links inode) Delta.LinkAdd ∷ [])) }
+    ensures grows { Grows at.old at.new }
+{
+    at.delta(Key::Links(inode), Delta::LinkAdd)
+}
+
+/// Makes `q`, in the directory `dir`, one more path of a file.
+pub fn link_file(
+    alloc: Global,
+    at: &mut Attempt<Key, Value>,
+    dir: &Path,
+    q: &Path,
+    inode: InodeId,
+) -> Result<(), OutOfMemory>
+    ensures went { OnOk result (GrowsBy at.old at.new [] (link_edits dir.now q.now inode)) }
+    ensures grows { Grows at.old at.new }
+{
+    put_at(alloc, at, q, Node::File(inode))?;
+    add_to(alloc, at, dir, q)?;
+    add_link(at, inode)?;
     Ok(())
 }

@@ -6,11 +6,12 @@ ghost use Rattle.wtf_occ.specs.Attempts.{Grows, GrowsBy};
 ghost use Rattle.wtf_model.specs.Steps.{IsLogged};
 ghost use Rattle.wtf_meta.specs.Maps.{seen};
 ghost use Rattle.wtf_meta.specs.Calls.{Caller, IsNameStep};
-ghost use Rattle.wtf_index.specs.Recorded.{target_keys, source_keys};
+ghost use Rattle.wtf_index.specs.Recorded.{target_keys, unlink_keys};
 ghost use Rattle.wtf_index.specs.Changed.{create_changes, unlink_changes};
 
 use crate::checks::{parent_path, source, target};
-use crate::edits::{make_file, take_file};
+use crate::edits::{make_file, take_path};
+use crate::looks::links_at;
 use std::alloc::Global;
 use wtf_base::{InodeId, OutOfMemory};
 use wtf_kv::Kv;
@@ -45,8 +46,8 @@ pub fn create(
     Ok(Answer::Okay)
 }
 
-/// Takes out the file `p`, on which no handle is open. It is refused for what is not there or a directory;
-/// then nothing changes. Want of memory may leave the attempt grown.
+/// Takes out the path `p` of a file, on which no handle is open; with its last path the file is gone. It is
+/// refused for what is not there or a directory; then nothing changes. Want of memory may leave the attempt grown.
 pub fn unlink(
     alloc: Global,
     kv: &Kv<Key, Value>,
@@ -54,7 +55,7 @@ pub fn unlink(
     p: &Path,
 ) -> Result<Answer, OutOfMemory>
     requires { IsTrue (is_pinned kv.now at.old.base) }
-    ensures went { OnOk result (GrowsBy at.old at.new (source_keys p.now)
+    ensures went { OnOk result (GrowsBy at.old at.new (unlink_keys (seen kv.now at.old) p.now)
         (unlink_changes (seen kv.now at.old) p.now)) }
     ensures step { IfOk result (λ a. (x : Caller) →
         IsNameStep x (seen kv.now at.old) at.old at.new (Op.Unlink p.now) a) }
@@ -65,10 +66,11 @@ pub fn unlink(
         Ok(inode) => inode,
         Err(word) => return Ok(Answer::Refused(word)),
     };
+    let links = links_at(kv, at, inode)?;
     // A file is not the root, so it has a parent.
     let Some(dir) = parent_path(alloc, p)? else {
         return Ok(Answer::Refused(Word::IsDir));
     };
-    take_file(alloc, at, &dir, p, inode)?;
+    take_path(alloc, at, &dir, p, inode, links)?;
     Ok(Answer::Okay)
 }

@@ -1,8 +1,8 @@
 //! The calls on names, on an attempt: each answers as the definitions' call on the tree for which the map
 //! stands that the attempt sees, records the keys that its answer rests on, and makes its changes.
 //!
-//! `create`, `unlink`, `mkdir`, `rmdir`, `list` and `rename` are the calls of scripts. `look_up`, `source`,
-//! `target` and `make_file` are what other calls need of names.
+//! `create`, `link`, `unlink`, `mkdir`, `rmdir`, `list` and `rename` are the calls of scripts. `look_up`, `links_at`,
+//! `source`, `target` and `make_file` are what other calls need of names.
 //!
 //! The rule is locality (`step`: `IsNameStep`). On every map that agrees with the one that the attempt sees on
 //! the keys that were recorded, and that the changes fit, the call is the definitions' call with this answer,
@@ -21,6 +21,7 @@ mod checks;
 mod edits;
 mod files;
 mod folders;
+mod links;
 mod looks;
 mod moves;
 
@@ -28,5 +29,6 @@ pub use checks::{source, target};
 pub use edits::make_file;
 pub use files::{create, unlink};
 pub use folders::{list, mkdir, rmdir};
-pub use looks::look_up;
+pub use links::link;
+pub use looks::{links_at, look_up};
 pub use moves::rename;

@@ -4,10 +4,11 @@ ghost use Rattle.std.specs.Prelude.{◌≡◌, [], ◌∷◌, IsTrue, IfOk, OnOk
 ghost use Rattle.wtf_kv.specs.Stores.{is_pinned};
 ghost use Rattle.wtf_occ.specs.Attempts.{Grows, GrowsBy};
 ghost use Rattle.wtf_meta.specs.Maps.{seen};
+ghost use Rattle.wtf_meta.specs.NameEdits.{link_count};
 ghost use Rattle.wtf_index.specs.Checks.{stands_at, names_of_dir};
 
 use std::alloc::Global;
-use wtf_base::OutOfMemory;
+use wtf_base::{InodeId, OutOfMemory};
 use wtf_kv::Kv;
 use wtf_occ::Attempt;
 use wtf_path::Path;
@@ -32,6 +33,7 @@ pub fn look_up(
         Some(Value::Names(_)) => Ok(None),
         Some(Value::Last(_)) => Ok(None),
         Some(Value::Region(_)) => Ok(None),
+        Some(Value::Count(_)) => Ok(None),
         None => Ok(None),
     }
 }
@@ -54,6 +56,29 @@ pub fn names_at(
         Some(Value::Node(_)) => Ok(NameSet::new(alloc)),
         Some(Value::Last(_)) => Ok(NameSet::new(alloc)),
         Some(Value::Region(_)) => Ok(NameSet::new(alloc)),
+        Some(Value::Count(_)) => Ok(NameSet::new(alloc)),
         None => Ok(NameSet::new(alloc)),
+    }
+}
+
+/// How many paths the file of an inode has. The key of their number is recorded.
+pub fn links_at(
+    kv: &Kv<Key, Value>,
+    at: &mut Attempt<Key, Value>,
+    inode: InodeId,
+) -> Result<u64, OutOfMemory>
+    requires { IsTrue (is_pinned kv.now at.old.base) }
+    ensures value { IfOk result (λ n. n ≡ link_count (seen kv.now at.old (Key.Links inode))) }
+    ensures went { OnOk result (GrowsBy at.old at.new (Key.Links inode ∷ []) []) }
+    ensures grows { Grows at.old at.new }
+{
+    let links = Key::Links(inode);
+    match at.read(kv, &links)? {
+        Some(Value::Count(n)) => Ok(n),
+        Some(Value::Node(_)) => Ok(1),
+        Some(Value::Names(_)) => Ok(1),
+        Some(Value::Last(_)) => Ok(1),
+        Some(Value::Region(_)) => Ok(1),
+        None => Ok(1),
     }
 }

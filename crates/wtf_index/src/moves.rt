@@ -1,4 +1,4 @@
-//! The call that moves a file.
+//! The call that gives a file another path in place of one.
 
 ghost use Rattle.std.specs.Prelude.{IsTrue, IfOk, OnOk};
 ghost use Rattle.wtf_kv.specs.Stores.{is_pinned};

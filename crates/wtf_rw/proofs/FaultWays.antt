@@ -62,8 +62,7 @@ pub write_due : {S : Type 0} (kind : StoreKind S) (t : Span S) (settings : Setti
     (why : Fault) → handle_in s f ≡ Some h
     → 0 < length bytes → h.off + length bytes ≤ MAX_REGIONS * settings.region → IsWriteFault kind t settings why → MayFault settings w s (op.Write f bytes) why
 write_due kind t settings w s f h bytes why here some fit cause = λ x told T size st holds.
-    let on = on_file x told w s T st holds f h here in
-    may_write kind t settings f bytes (call (cap_for x) T (op.Write f bytes)).answer why some
+    let on = on_file x told w s T st holds f h here in may_write kind t settings f bytes (call (cap_for x) T (op.Write f bytes)).answer why some
     (ap (λ (d : Done). d.answer) (write-open (cap_for x) T f on.handle on.there bytes some (omega (arith, fit, size, on.of.off)))) cause
 
 -- room in the last region is room below the greatest length

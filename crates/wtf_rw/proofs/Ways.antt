@@ -1,27 +1,28 @@
 -- Each way through a call on handles, on all maps at once.
-use Rattle.std.proofs.Common.{◌≡◌, ℕ, ◌+◌, List, [], ◌∷◌, length, None, Some, refl, sym, ap, ◌∙◌, subst}
+use Rattle.std.proofs.Common.{◌≡◌, ℕ, ◌+◌, List, [], ◌∷◌, ◌++◌, length, None, Some, refl, sym, ap, ◌∙◌, subst, inr}
 use Rattle.std.specs.FinMap.{get, remove}
 use Rattle.wtf_base.specs.declared.ids.InodeId.{InodeId}
 use Rattle.wtf_kv.specs.Edits.{Agree}
+use Rattle.wtf_kv.proofs.EditLaws.{Agree-parts}
 use Rattle.wtf_model.specs.declared.answer.Word.TheVariants.{InUse, NoEnt, IsDir, Range}
 use Rattle.wtf_model.specs.declared.answer.Answer.{Answer}
 use Rattle.wtf_model.specs.declared.answer.Answer.TheVariants as answer
 use Rattle.wtf_model.specs.declared.op.Op.{Op}
 use Rattle.wtf_model.specs.declared.op.Op.TheVariants as op
 use Rattle.wtf_model.specs.declared.op.Seek.{Seek}
-use Rattle.wtf_model.specs.Tree.{Tree, Dir, File, bytes_of}
+use Rattle.wtf_model.specs.Tree.{path_count, Tree, Dir, File, bytes_of}
 use Rattle.wtf_model.specs.Session.{Session}
 use Rattle.wtf_model.specs.Done.{Done, bytes_of_handle, moved}
 use Rattle.wtf_model.specs.Call.{call}
-use Rattle.wtf_model.specs.Items.{reads, source_reads}
+use Rattle.wtf_model.specs.Items.{reads, file_reads}
 use Rattle.wtf_model.specs.declared.item.Item.{Item}
-use Rattle.wtf_model.specs.declared.item.Item.TheVariants.{NodeOf, BodyOf}
+use Rattle.wtf_model.specs.declared.item.Item.TheVariants.{NodeOf, BodyOf, LinksOf}
 use Rattle.wtf_model.specs.Examples.{unchanged}
 use Rattle.wtf_model.specs.declared.op.Seek.TheVariants as to
-use Rattle.wtf_model.proofs.ItemLaws.{is_among-head, is_among-tail}
+use Rattle.wtf_model.proofs.ItemLaws.{is_among-head}
 use Rattle.wtf_model.proofs.CallLaws.{opened, call-open, call-open_refused, call-open_taken}
 use Rattle.wtf_values.specs.declared.key.Key.{Key}
-use Rattle.wtf_values.specs.declared.key.Key.TheVariants.{Path}
+use Rattle.wtf_values.specs.declared.key.Key.TheVariants.{Path, Links}
 use Rattle.wtf_values.specs.declared.value.Node.TheVariants.{Folder, File as FileNode}
 use Rattle.wtf_meta.specs.declared.session.Handle.{Handle}
 use Rattle.wtf_meta.specs.Maps.{Map}
@@ -29,12 +30,14 @@ use Rattle.wtf_meta.specs.Contents.{Told}
 use Rattle.wtf_meta.specs.Appends.{length_keys}
 use Rattle.wtf_meta.specs.Files.{file_len}
 use Rattle.wtf_meta.specs.FileEdits.{file_of}
-use Rattle.wtf_meta.specs.NameEdits.{node_of}
+use Rattle.wtf_meta.specs.NameEdits.{node_of, link_count}
 use Rattle.wtf_meta.specs.Feet.{Has}
 use Rattle.wtf_meta.specs.Trees.{LeadsTo, IsBody, Stands}
 use Rattle.wtf_meta.specs.Sessions.{SessionView, handle_in, slice_in, SetsHandle, moved_to, Holds}
 use Rattle.wtf_meta.specs.Calls.{Caller, cap_for, IsDone, IsCall}
 use Rattle.wtf_meta.proofs.BodyReads.{body_length}
+use Rattle.wtf_meta.proofs.Counts.{file-count}
+use Rattle.wtf_meta.proofs.FeetLaws.{EachRead-append}
 use Rattle.wtf_meta.proofs.FeetFiles.{keys_read, looks_feet}
 use Rattle.wtf_meta.proofs.Handling.{holds-handle, holds-closed, holds-moved}
 use Rattle.wtf_meta.proofs.Nodes.{node_of-is, node-missing, node-folder}
@@ -161,8 +164,7 @@ module _ (x : Caller) (b : Map) (s : SessionView) where
       → IsCall x b s t (only_keys (place_keys b h.inode place)) (op.Seek f place) answer.Okay
   seeks t f h place len n e is leads set = turns t (place_keys b h.inode place) (op.Seek f place) answer.Okay set.slices
       (place_read f h place e) (λ told w S agree st holds.
-      let on = on_file x told w s S st holds f h e in
-      turned-moved x told w s S st holds t f n h (op.Seek f place) answer.Okay on set
+      let on = on_file x told w s S st holds f h e in turned-moved x told w s S st holds t f n h (op.Seek f place) answer.Okay on set
       (seek-open (cap_for x) S f on.handle on.there place
       ∙ ap (sought (cap_for x) S f on.handle on.there) (lands_same told w h.inode (bytes_of_handle S on.handle) place len h.off on.handle.off on.body agree is
       on.of.off ∙ leads)))
@@ -179,25 +181,40 @@ module _ (x : Caller) (b : Map) (s : SessionView) where
   -- what stands at a path
   pub stats_nothing : (p : List ℕ) → stands_at b p ≡ None → IsCall x b s s (only_keys (Path p ∷ [])) (op.Stat p) (answer.Refused NoEnt)
   stats_nothing p none = stays x b s (Path p ∷ []) (op.Stat p) (answer.Refused NoEnt)
-      (path_key p (op.Stat p) (BodyOf p ∷ []) (λ S. refl)) (λ told w S agree st holds.
+      (path_key p (op.Stat p) (BodyOf p ∷ LinksOf p ∷ []) (λ S. refl)) (λ told w S agree st holds.
       stat-at (cap_for x) S p None (node-missing x.size told w (w (Path p)) (get S.tree p) (st.nodes p) (ap node_of agree.0 ∙ none)))
 
   pub stats_folder : (p : List ℕ) → stands_at b p ≡ Some Folder → IsCall x b s s (only_keys (Path p ∷ [])) (op.Stat p) answer.Dir
   stats_folder p is = stays x b s (Path p ∷ []) (op.Stat p) answer.Dir
-      (path_key p (op.Stat p) (BodyOf p ∷ []) (λ S. refl)) (λ told w S agree st holds.
+      (path_key p (op.Stat p) (BodyOf p ∷ LinksOf p ∷ []) (λ S. refl)) (λ told w S agree st holds.
       stat-at (cap_for x) S p (Some Dir) (node-folder x.size told w (w (Path p)) (get S.tree p) (st.nodes p)
       (node_of-is (w (Path p)) Folder (ap node_of agree.0 ∙ is))))
 
-  stat_read : (p : List ℕ) (i : InodeId) → stands_at b p ≡ Some (FileNode i) → KeysRead x b s (Path p ∷ len_keys b i) (op.Stat p)
+  -- what was recorded of a file: its path, what tells its length, and how many paths it has
+  abbrev stat_of_file : List ℕ → InodeId → List Key
+  stat_of_file p i = Path p ∷ len_keys b i ++ Links i ∷ []
+
+  stat_read : (p : List ℕ) (i : InodeId) → stands_at b p ≡ Some (FileNode i) → KeysRead x b s (stat_of_file p i) (op.Stat p)
   stat_read p i is = λ told w S agree st holds.
       let leads : LeadsTo w p i = node_of-is (w (Path p)) (FileNode i) (ap node_of agree.0 ∙ is) in
-      let body : Has (BodyOf p) (source_reads p) = is_among-tail (NodeOf p) (BodyOf p ∷ []) (BodyOf p) (is_among-head (BodyOf p) []) in
-      (is_among-head (NodeOf p) (BodyOf p ∷ []), keys_read x.tx w i p leads (source_reads p) body (length_keys (file_of i b)))
+      let R : List Item = file_reads p in
+      let node : Has (NodeOf p) R = is_among-head (NodeOf p) (BodyOf p ∷ LinksOf p ∷ []) in
+      let body : Has (BodyOf p) R = is_among-head (BodyOf p) (LinksOf p ∷ []) in
+      let links : Has (LinksOf p) R = is_among-head (LinksOf p) [] in (
+        node,
+        EachRead-append x.tx w R (len_keys b i) (Links i ∷ []) (keys_read x.tx w i p leads R body (length_keys (file_of i b)))
+            (inr (record { path = p; leads = leads; node = node; links = links }), tt),
+      )
 
-  pub stats_file : (p : List ℕ) (i : InodeId) (n : ℕ) → stands_at b p ≡ Some (FileNode i) → n ≡ file_len x.size (file_of i b)
-      → IsCall x b s s (only_keys (Path p ∷ len_keys b i)) (op.Stat p) (answer.File n)
-  stats_file p i n is len = stays x b s (Path p ∷ len_keys b i) (op.Stat p) (answer.File n) (stat_read p i is) (λ told w S agree st holds.
+  pub stats_file : (p : List ℕ) (i : InodeId) (n links : ℕ) → stands_at b p ≡ Some (FileNode i)
+      → n ≡ file_len x.size (file_of i b) → links ≡ link_count (b (Links i))
+      → IsCall x b s s (only_keys (stat_of_file p i)) (op.Stat p) (answer.File n links)
+  stats_file p i n links is len count = stays x b s (stat_of_file p i) (op.Stat p) (answer.File n links) (stat_read p i is) (λ told w S agree st holds.
+      let parts = Agree-parts (len_keys b i) (Links i ∷ []) b w agree.1 in
       let leads : LeadsTo w p i = node_of-is (w (Path p)) (FileNode i) (ap node_of agree.0 ∙ is) in
       let file = leads-file x.size told x.tx x.calls w S.tree st p i leads in
+      let counted : path_count file.paths ≡ links = sym (file-count x.size told w i file.paths file.bytes p file.file leads)
+      ∙ (ap link_count parts.1.0 ∙ sym count) in
       stat-at (cap_for x) S p (Some (File file.paths file.bytes)) file.there
-      ∙ ap (λ (k : ℕ). unchanged S (answer.File k)) (sym (body_length x.size told i b w file.bytes agree.1 file.body) ∙ sym len))
+      ∙ ap (λ (k : ℕ). unchanged S (answer.File k (path_count file.paths))) (sym (body_length x.size told i b w file.bytes parts.0 file.body) ∙ sym len)
+      ∙ ap (λ (k : ℕ). unchanged S (answer.File n k)) counted)

@@ -1,10 +1,10 @@
 -- The keys that each call records, in order and up to the refusal, by what the attempt saw and what is in hand.
-use Rattle.std.specs.Prelude.{List, [], ◌∷◌, Option, Some, None, ℕ}
+use Rattle.std.specs.Prelude.{List, [], ◌∷◌, ◌++◌, Option, Some, None, ℕ}
 use Rattle.wtf_model.specs.declared.op.Seek.{Seek}
 use Rattle.wtf_model.specs.declared.op.Seek.TheVariants as to
 use Rattle.wtf_base.specs.declared.ids.InodeId.{InodeId}
 use Rattle.wtf_values.specs.declared.key.Key.{Key}
-use Rattle.wtf_values.specs.declared.key.Key.TheVariants.{Path}
+use Rattle.wtf_values.specs.declared.key.Key.TheVariants.{Path, Links}
 use Rattle.wtf_values.specs.declared.value.Node.{Node}
 use Rattle.wtf_values.specs.declared.value.Node.TheVariants.{Folder, File}
 use Rattle.wtf_meta.specs.declared.session.Handle.{Handle}
@@ -22,9 +22,9 @@ place_keys w i to.End = len_keys w i
 abbrev pub seek_keys : Map → Option Handle → Seek → List Key
 seek_keys w h place = if_open h (λ g. place_keys w g.inode place)
 
--- of a file that stands at a path what tells its length, and of a directory nothing
+-- of a file that stands at a path what tells its length and how many paths it has, and of a directory nothing
 abbrev pub node_keys : Map → Option Node → List Key
-node_keys w (Some (File i)) = len_keys w i
+node_keys w (Some (File i)) = len_keys w i ++ Links i ∷ []
 node_keys w (Some Folder) = []
 node_keys w None = []
 

@@ -20,7 +20,7 @@ ghost use Rattle.wtf_rw.specs.Seeks.{lands, IsSought};
 use crate::RwOp;
 use std::alloc::Global;
 use wtf_base::{InodeId, OutOfMemory, Settings};
-use wtf_index::look_up;
+use wtf_index::{links_at, look_up};
 use wtf_kv::Kv;
 use wtf_meta::Session;
 use wtf_model::{Answer, Seek, Word};
@@ -126,8 +126,8 @@ pub(crate) fn seek(
     Ok(answer)
 }
 
-/// Tells what stands at a path, and a file's length. It is refused where nothing stands. Nothing
-/// changes. Want of memory may leave the attempt grown.
+/// Tells what stands at a path, and a file's length and how many paths it has. It is refused where
+/// nothing stands. Nothing changes. Want of memory may leave the attempt grown.
 pub(crate) fn stat(
     alloc: Global,
     kv: &Kv<Key, Value>,
@@ -147,5 +147,6 @@ pub(crate) fn stat(
         None => return Ok(Answer::Refused(Word::NoEnt)),
     };
     let len = file_len(kv, at, inode, settings)?;
-    Ok(Answer::File { len })
+    let links = links_at(kv, at, inode)?;
+    Ok(Answer::File { len, links })
 }

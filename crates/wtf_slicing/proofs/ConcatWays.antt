@@ -31,7 +31,7 @@ use Rattle.wtf_meta.specs.Sessions.{SessionView}
 use Rattle.wtf_meta.specs.Calls.{Caller, cap_for, Did, IsDone, DoneOnEach, IsCall}
 use Rattle.wtf_meta.proofs.BodyEdits.{body_filled}
 use Rattle.wtf_meta.proofs.FeetFiles.{edits_are_of}
-use Rattle.wtf_meta.proofs.Frame.{paths_stay, dirs_stay, inodes_stay, regions_stay}
+use Rattle.wtf_meta.proofs.Frame.{paths_stay, dirs_stay, inodes_stay, regions_stay, links_stay}
 use Rattle.wtf_meta.proofs.KeyPuts.{with-append}
 use Rattle.wtf_meta.proofs.MapBytes.{with_bytes}
 use Rattle.wtf_meta.proofs.Named.{EditsBytes-append}
@@ -59,6 +59,7 @@ edits_change i ds w = record {
   dirs = λ q. dirs_stay i ds w q;
   inodes = λ j other. inodes_stay i j ds w (λ e. other (sym e));
   regions = λ j r other. regions_stay i j r ds w (λ e. other (sym e));
+  counts = λ j. links_stay i j ds w;
 }
 
 -- keys and changes of a call that reads lists of bases, and no byte

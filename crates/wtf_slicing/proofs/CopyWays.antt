@@ -94,7 +94,7 @@ module _ (x : Caller) (b : Map) (s : SessionView) (p q : List ℕ) where
   pub copies_nowhere : (i : InodeId) (word : Word) → source_of b p ≡ Ok i → target_of b q ≡ Err word
       → IsCall x b s s (only_keys (source_keys p ++ target_keys b q)) (op.Copy p q) (answer.Refused word)
   copies_nowhere i word e f = stays x b s (source_keys p ++ target_keys b q) (op.Copy p q) (answer.Refused word)
-      (λ told w S agree st holds. both_read x.tx b w p q)
+      (λ told w S agree st holds. both_read x.tx b w (BodyOf p ∷ []) p q)
       (λ told w S agree st holds.
       let parts = Agree-parts (source_keys p) (target_keys b q) b w agree in
       let file = leads-file x.size told x.tx x.calls w S.tree st p i (source-leads w p i (source-agrees b w p parts.0 ∙ e)) in

@@ -77,7 +77,8 @@ module _ (x : Caller) (told : Told) (w : Map) (s : SessionView) (S : Session) (s
       record {
         answer = refl;
         stands = subst (λ (t : Tree). Stands x.size told x.tx (x.calls + 1) full t) is
-            (stands-rebytes x.size told x.tx (x.calls + 1) made first made_done.stands q new made_leads full changes (x.calls + 1) (omega arith) bytes body told_bytes);
+            (stands-rebytes x.size told x.tx (x.calls + 1) made first made_done.stands q new made_leads full changes (x.calls + 1)
+            (omega arith) bytes body told_bytes);
         holds = Holds-on told made full s (add_file S q []) tree (λ f h there leads. changes.paths h.path ∙ leads) made_done.holds;
         own = λ j other none. none_stays x.size told x.tx (x.calls + 1) made first made_done.stands q new made_leads full changes j
             (made_done.own j other none);

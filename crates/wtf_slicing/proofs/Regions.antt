@@ -9,7 +9,7 @@ use Rattle.wtf_kv.specs.declared.changes.Change.TheVariants as change
 use Rattle.wtf_kv.proofs.EditLaws.{Fits-append}
 use Rattle.wtf_overlay.specs.Origin.{Place}
 use Rattle.wtf_values.specs.declared.key.Key.{Key}
-use Rattle.wtf_values.specs.declared.key.Key.TheVariants.{Path, Dir, Inode, Region}
+use Rattle.wtf_values.specs.declared.key.Key.TheVariants.{Path, Dir, Inode, Region, Links}
 use Rattle.wtf_values.specs.declared.region.RegionValue.{RegionValue}
 use Rattle.wtf_values.specs.declared.value.Value.{Value}
 use Rattle.wtf_values.specs.declared.value.Value.TheVariants as value
@@ -68,6 +68,7 @@ apart i r q differ e = differ (ap number e)
     number (Dir p) = 0
     number (Inode j) = 0
     number (Region j s) = s
+    number (Links j) = 0
 
 -- and where the file had none there, it has just these
 regions_put : (i : InodeId) (r : ℕ) (vs : List (Option RegionValue)) (w : Map) (k : ℕ) → ((q : ℕ) → r ≤ q → w (Region i q) ≡ None)
@@ -157,6 +158,7 @@ module _ (i : InodeId) (last : ℕ) (vs : List (Option RegionValue)) (w : Map) w
     dirs = λ q. not_own (Dir q) tt;
     inodes = λ j other. not_own (Inode j) (λ e. other (sym e));
     regions = λ j r other. not_own (Region j r) (λ e. other (sym e));
+    counts = λ j. not_own (Links j) tt;
   }
 
   fill_last : filled (Inode i) ≡ Some (value.Last last)

@@ -10,7 +10,7 @@ use Rattle.wtf_kv.specs.Edits.{fits, is_between}
 use Rattle.wtf_overlay.specs.declared.part.Entry.{Entry}
 use Rattle.wtf_overlay.specs.declared.part.Piece.{Piece}
 use Rattle.wtf_values.specs.declared.key.Key.{Key}
-use Rattle.wtf_values.specs.declared.key.Key.TheVariants.{Path, Dir, Inode, Region}
+use Rattle.wtf_values.specs.declared.key.Key.TheVariants.{Path, Dir, Inode, Region, Links}
 use Rattle.wtf_values.specs.declared.region.RegionValue.{RegionValue}
 use Rattle.wtf_values.specs.declared.value.Value.{Value}
 use Rattle.wtf_values.specs.declared.value.Value.TheVariants as value
@@ -42,6 +42,7 @@ keeps_push e None h = tt
 keeps_push e (Some (value.Region v)) h = tt
 keeps_push e (Some (value.Last n)) h = h
 keeps_push e (Some (value.Names s)) h = h
+keeps_push e (Some (value.Count n)) h = h
 keeps_push e (Some (value.Node n)) h = h
 
 keeps_rel : (ps : List Piece) (b : ℕ) → KeepsKind (delta.PushRel ps b)
@@ -49,6 +50,7 @@ keeps_rel ps b None h = tt
 keeps_rel ps b (Some (value.Region v)) h = tt
 keeps_rel ps b (Some (value.Last n)) h = h
 keeps_rel ps b (Some (value.Names s)) h = h
+keeps_rel ps b (Some (value.Count n)) h = h
 keeps_rel ps b (Some (value.Node n)) h = h
 
 keeps_clip : (end : ℕ) → KeepsKind (delta.Clip end)
@@ -56,6 +58,7 @@ keeps_clip end None h = tt
 keeps_clip end (Some (value.Region v)) h = tt
 keeps_clip end (Some (value.Last n)) h = h
 keeps_clip end (Some (value.Names s)) h = h
+keeps_clip end (Some (value.Count n)) h = h
 keeps_clip end (Some (value.Node n)) h = h
 
 keeps_zero : (from upto : ℕ) → KeepsKind (delta.ZeroWithin from upto)
@@ -63,6 +66,7 @@ keeps_zero from upto None h = tt
 keeps_zero from upto (Some (value.Region v)) h = tt
 keeps_zero from upto (Some (value.Last n)) h = h
 keeps_zero from upto (Some (value.Names s)) h = h
+keeps_zero from upto (Some (value.Count n)) h = h
 keeps_zero from upto (Some (value.Node n)) h = h
 
 apart : (i : InodeId) (r q : ℕ) → q ≢ r → Region i r ≢ Region i q
@@ -73,6 +77,7 @@ apart i r q differ e = differ (sym (ap number e))
     number (Dir p) = 0
     number (Inode j) = 0
     number (Region j s) = s
+    number (Links j) = 0
 
 at_region : (i : InodeId) (r : ℕ) (w : Map) (d : Delta) → step (change.Delta (Region i r) d) w (Region i r) ≡ made (w (Region i r)) d
 at_region i r w d = cond-true (is_at (key_cmp (Region i r)) (Region i r)) _ _ (at_itself (Region i r))
@@ -144,6 +149,7 @@ rel_fits None o ps b same h = fits-missing ps b ∙ ap (λ v. fits_at_end v ps b
 rel_fits (Some (value.Region v)) o ps b same h = fits-region v ps b ∙ ap (λ u. fits_at_end u ps b) (same tt) ∙ h
 rel_fits (Some (value.Last n)) o ps b same h = refl
 rel_fits (Some (value.Names s)) o ps b same h = refl
+rel_fits (Some (value.Count n)) o ps b same h = refl
 rel_fits (Some (value.Node n)) o ps b same h = refl
 
 -- and any other change fits on any value
@@ -155,6 +161,7 @@ fits_push e None = refl
 fits_push e (Some (value.Region v)) = refl
 fits_push e (Some (value.Last n)) = refl
 fits_push e (Some (value.Names s)) = refl
+fits_push e (Some (value.Count n)) = refl
 fits_push e (Some (value.Node n)) = refl
 
 fits_clip : (end : ℕ) → FitsAll (delta.Clip end)
@@ -162,6 +169,7 @@ fits_clip end None = refl
 fits_clip end (Some (value.Region v)) = refl
 fits_clip end (Some (value.Last n)) = refl
 fits_clip end (Some (value.Names s)) = refl
+fits_clip end (Some (value.Count n)) = refl
 fits_clip end (Some (value.Node n)) = refl
 
 fits_zero : (from upto : ℕ) → FitsAll (delta.ZeroWithin from upto)
@@ -169,6 +177,7 @@ fits_zero from upto None = refl
 fits_zero from upto (Some (value.Region v)) = refl
 fits_zero from upto (Some (value.Last n)) = refl
 fits_zero from upto (Some (value.Names s)) = refl
+fits_zero from upto (Some (value.Count n)) = refl
 fits_zero from upto (Some (value.Node n)) = refl
 
 fits_raise : (r : ℕ) → FitsAll (delta.RaiseLast r)
@@ -176,6 +185,7 @@ fits_raise r None = refl
 fits_raise r (Some (value.Region v)) = refl
 fits_raise r (Some (value.Last n)) = refl
 fits_raise r (Some (value.Names s)) = refl
+fits_raise r (Some (value.Count n)) = refl
 fits_raise r (Some (value.Node n)) = refl
 
 fits_set : (r : ℕ) → FitsAll (delta.SetLast r)
@@ -183,6 +193,7 @@ fits_set r None = refl
 fits_set r (Some (value.Region v)) = refl
 fits_set r (Some (value.Last n)) = refl
 fits_set r (Some (value.Names s)) = refl
+fits_set r (Some (value.Count n)) = refl
 fits_set r (Some (value.Node n)) = refl
 
 one_fits : (i : InodeId) (d : FileEdit) (w : Map) (v : FileView) → Tells i w v → fits_edit d v ≡ true → fits_here (edit_of i d) w ≡ true

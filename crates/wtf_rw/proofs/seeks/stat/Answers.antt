@@ -1,11 +1,12 @@
-use Rattle.std.proofs.Common.{◌≡◌, ℕ, [], ◌∷◌, Some, None, sym, ap, ◌∙◌, subst}
+use Rattle.std.proofs.Common.{◌≡◌, ℕ, [], ◌∷◌, ◌++◌, Some, None, sym, ap, ◌∙◌, subst}
 use Rattle.wtf_model.specs.declared.answer.Answer.TheVariants as answer
 use Rattle.wtf_model.specs.declared.answer.Word.TheVariants.{NoEnt}
 use Rattle.wtf_model.specs.declared.op.Op.TheVariants as op
 use Rattle.wtf_occ.specs.Attempts.{GrowsBy}
-use Rattle.wtf_values.specs.declared.key.Key.TheVariants.{Path}
+use Rattle.wtf_values.specs.declared.key.Key.TheVariants.{Path, Links}
 use Rattle.wtf_values.specs.declared.value.Node.TheVariants.{Folder, File}
 use Rattle.wtf_meta.specs.Maps.{Map, seen}
+use Rattle.wtf_meta.specs.NameEdits.{link_count}
 use Rattle.wtf_meta.specs.Files.{file_len}
 use Rattle.wtf_meta.specs.FileEdits.{file_of}
 use Rattle.wtf_steps.specs.Steps.{in_hand}
@@ -43,6 +44,11 @@ returns-clause-step c s x bytes size writes whole =
     c.in_ok-len.ensures.recorded in
     let len : c.in_ok-len.len ≡ file_len x.size (file_of i b) =
     c.in_ok-len.ensures.value ∙ ap (λ (w : Map). file_len c.args.settings.region (file_of i w)) same ∙ ap (λ (n : ℕ). file_len n (file_of i b)) (sym size) in
-    step_of x b (in_hand c.args.at.now s) (in_hand c.file_len.new.at s) (Path p ∷ len_keys b i) (op.Stat p) (answer.File c.in_ok-len.len)
-    (keys_more c.args.at.now mid c.file_len.new.at (Path p ∷ []) (len_keys b i) c.in_ok-inode.ensures.went went)
-    (stats_file x b s p i c.in_ok-len.len node len)
+    let last = c.file_len.new.at in
+    let same_too : seen c.args.kv.now last ≡ b = seen-same c.args.kv.now mid last (len_keys b i) went ∙ same in
+    let links : c.in_ok-links.links ≡ link_count (b (Links i)) = c.in_ok-links.ensures.value ∙ ap (λ (w : Map). link_count (w (Links i))) same_too in
+    let looked = keys_more c.args.at.now mid last (Path p ∷ []) (len_keys b i) c.in_ok-inode.ensures.went went in
+    step_of x b (in_hand c.args.at.now s) (in_hand c.links_at.new.at s) (Path p ∷ len_keys b i ++ Links i ∷ []) (op.Stat p)
+    (answer.File c.in_ok-len.len c.in_ok-links.links)
+    (keys_more c.args.at.now last c.links_at.new.at (Path p ∷ len_keys b i) (Links i ∷ []) looked c.in_ok-links.ensures.went)
+    (stats_file x b s p i c.in_ok-len.len c.in_ok-links.links node len links)
