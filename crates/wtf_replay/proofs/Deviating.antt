@@ -47,7 +47,8 @@ module _ (size : ℕ) (kv : Store Key Value) (told : Told) (x : TxnView) (ops : 
   pub before_next : (t : Tree) → Stands size told x.tx 0 (metadata_at kv x.at.base) t → x.replayed ≤ length ops
       → Stands size told x.tx x.replayed (seen kv x.at) (session_after (cap_for (caller_at size x.tx 0)) t (take x.replayed ops)).tree
   before_next t st le =
-      subst (λ n. Stands size told x.tx n (seen kv x.at) (session_after (cap_for (caller_at size x.tx 0)) t (take x.replayed ops)).tree) (length-take-le x.replayed ops le) (at_base t st).stands
+      subst (λ n. Stands size told x.tx n (seen kv x.at) (session_after (cap_for (caller_at size x.tx 0)) t (take x.replayed ops)).tree)
+      (length-take-le x.replayed ops le) (at_base t st).stands
 
   -- the next call answers otherwise than was shown
   pub deviates : (o : Op (List ℕ)) (a : Answer) → x.replayed ≤ length x.log.ops
@@ -64,7 +65,8 @@ module _ (size : ℕ) (kv : Store Key Value) (told : Told) (x : TxnView) (ops : 
       let down : x.replayed + 1 - 1 ≡ x.replayed = omega arith in
       record {
         counted = omega arith;
-        agree = ap (λ n. take n (answers_of cap t ops)) down ∙ answers_from-take cap (fresh t) ops x.replayed ∙ ran.answers ∙ ap (λ n. take n x.log.shown) (sym down);
+        agree = ap (λ n. take n (answers_of cap t ops)) down ∙ answers_from-take cap (fresh t) ops x.replayed ∙ ran.answers
+            ∙ ap (λ n. take n x.log.shown) (sym down);
         answer_is = ap (slice_get (answers_of cap t ops)) down ∙ answers_from-at cap (fresh t) ops x.replayed o at_op ∙ ap Some answer;
         differs = λ e. differs (ap (slice_get x.log.shown) (sym down) ∙ e);
       }

@@ -37,7 +37,8 @@ pub ended_aborted : (r : Answer) (i : ℕ) (a : Answer) (kv after : Store Key Va
 ended_aborted (Aborted' j box b) i a kv after is same = same
 ended_aborted r i a kv after is same = absurd is
 
-pub true_end_aborted : (r : Answer) (i : ℕ) (a : Answer) (size : ℕ) (told : Told × Told) (kv after : Store Key Value) (x : TxnView) (ops : List (Op (List ℕ))) → IsAbortedAt r i a
+pub true_end_aborted : (r : Answer) (i : ℕ) (a : Answer) (size : ℕ) (told : Told × Told) (kv after : Store Key Value) (x : TxnView) (ops : List (Op (List ℕ)))
+    → IsAbortedAt r i a
     → DeviatesOn (metadata_at kv kv.number) size told.0 x ops i a → IsTrueEnd size told kv after x ops r
 true_end_aborted (Aborted' j box b) i a size told kv after x ops is deviates =
     subst (λ n. DeviatesOn (metadata_at kv kv.number) size told.0 x ops n b) (sym is.0)
@@ -45,13 +46,15 @@ true_end_aborted (Aborted' j box b) i a size told kv after x ops is deviates =
 true_end_aborted r i a size told kv after x ops is deviates = absurd is
 
 -- deviations speak of the number and of what was shown alone
-deviates_as : (w : Map) (size : ℕ) (told : Told) (x y : TxnView) (ops : List (Op (List ℕ))) (i : ℕ) (a : Answer) → y.tx ≡ x.tx → y.log ≡ x.log → DeviatesOn w size told x ops i a → DeviatesOn w size told y ops i a
+deviates_as : (w : Map) (size : ℕ) (told : Told) (x y : TxnView) (ops : List (Op (List ℕ))) (i : ℕ) (a : Answer) → y.tx ≡ x.tx → y.log ≡ x.log
+    → DeviatesOn w size told x ops i a → DeviatesOn w size told y ops i a
 deviates_as w size told x y ops i a tx log h t st =
     subst (λ n. Deviates (answers_of (cap_for (caller_at size n 0)) t ops) y.log.shown i a) (sym tx)
     (subst (λ l. Deviates (answers_of (cap_for (caller_at size x.tx 0)) t ops) l.shown i a) (sym log)
     (h t (subst (λ n. Stands size told n 0 w t) tx st)))
 
-pub final_as : (size : ℕ) (told : Told) (kv after : Store Key Value) (x y : TxnView) (ops : List (Op (List ℕ))) (n : ℕ) → y.tx ≡ x.tx → y.log ≡ x.log → IsFinal size told kv after x ops n → IsFinal size told kv after y ops n
+pub final_as : (size : ℕ) (told : Told) (kv after : Store Key Value) (x y : TxnView) (ops : List (Op (List ℕ))) (n : ℕ) → y.tx ≡ x.tx → y.log ≡ x.log
+    → IsFinal size told kv after x ops n → IsFinal size told kv after y ops n
 final_as size told kv after x y ops n tx log f = record {
   at = f.at;
   session = f.session;
@@ -71,14 +74,17 @@ final_as size told kv after x y ops n tx log f = record {
 }
 
 -- and so does the meaning of a commit
-pub true_end_as : (r : Answer) (size : ℕ) (told : Told × Told) (kv after : Store Key Value) (x y : TxnView) (ops : List (Op (List ℕ))) → y.tx ≡ x.tx → y.log ≡ x.log → IsTrueEnd size told kv after x ops r → IsTrueEnd size told kv after y ops r
+pub true_end_as : (r : Answer) (size : ℕ) (told : Told × Told) (kv after : Store Key Value) (x y : TxnView) (ops : List (Op (List ℕ))) → y.tx ≡ x.tx
+    → y.log ≡ x.log → IsTrueEnd size told kv after x ops r → IsTrueEnd size told kv after y ops r
 true_end_as (answer.Committed n) size told kv after x y ops tx log h = final_as size told.1 kv after x y ops n tx log h
 true_end_as (Aborted' i box a) size told kv after x y ops tx log h = deviates_as (metadata_at kv kv.number) size told.0 x y ops i a tx log h
 true_end_as r size told kv after x y ops tx log h = tt
 
 -- the same of stores that show the same maps
-final_along : (size : ℕ) (told : Told) (kv kv2 after after2 : Store Key Value) (x : TxnView) (ops : List (Op (List ℕ))) (n : ℕ) → kv2.number ≡ kv.number → ((m : ℕ) → metadata_at kv2 m ≡ metadata_at kv m) → KeepsVersions kv kv2
-    → after2.number ≡ after.number → ((m : ℕ) → metadata_at after2 m ≡ metadata_at after m) → KeepsVersions after after2 → IsFinal size told kv after x ops n → IsFinal size told kv2 after2 x ops n
+final_along : (size : ℕ) (told : Told) (kv kv2 after after2 : Store Key Value) (x : TxnView) (ops : List (Op (List ℕ))) (n : ℕ) → kv2.number ≡ kv.number
+    → ((m : ℕ) → metadata_at kv2 m ≡ metadata_at kv m) → KeepsVersions kv kv2
+    → after2.number ≡ after.number → ((m : ℕ) → metadata_at after2 m ≡ metadata_at after m) → KeepsVersions after after2 → IsFinal size told kv after x ops n
+    → IsFinal size told kv2 after2 x ops n
 final_along size told kv kv2 after after2 x ops n number same keeps number2 maps keeps2 f =
     let map : metadata_at kv2 kv2.number ≡ metadata_at kv kv.number = ap (metadata_at kv2) number ∙ same kv.number in
     record {
@@ -90,7 +96,8 @@ final_along size told kv kv2 after after2 x ops n number same keeps number2 maps
       told_are = f.told_are;
       lists_are = f.lists_are;
       run = subst (λ w. IsRun (caller_at size x.tx 0) w f.session (did_by f.at f.facts f.stored f.lists) (ops, x.log.shown)) (sym (same f.at.base)) f.run;
-      agree = subst (λ w. Agree f.at.reads (metadata_at kv2 f.at.base) w) (sym map) (subst (λ w. Agree f.at.reads w (metadata_at kv kv.number)) (sym (same f.at.base)) f.agree);
+      agree = subst (λ w. Agree f.at.reads (metadata_at kv2 f.at.base) w) (sym map)
+          (subst (λ w. Agree f.at.reads w (metadata_at kv kv.number)) (sym (same f.at.base)) f.agree);
       fits = subst (AllFit f.at.changes) (sym map) f.fits;
       next = f.next ∙ ap (λ k. k + 1) (sym number);
       number = number2 ∙ f.number;
@@ -101,13 +108,18 @@ final_along size told kv kv2 after after2 x ops n number same keeps number2 maps
           ∙ ap (λ (l : List (ℕ × Option Value)). versions_with key_cmp outcome_of f.at.changes n q (metadata_at kv2 kv2.number q) l) (sym (keeps q));
     }
 
-pub true_end_along : (r : Answer) (size : ℕ) (told : Told × Told) (kv kv2 after after2 : Store Key Value) (x : TxnView) (ops : List (Op (List ℕ))) → kv2.number ≡ kv.number → ((m : ℕ) → metadata_at kv2 m ≡ metadata_at kv m) → KeepsVersions kv kv2
-    → after2.number ≡ after.number → ((m : ℕ) → metadata_at after2 m ≡ metadata_at after m) → KeepsVersions after after2 → IsTrueEnd size told kv after x ops r → IsTrueEnd size told kv2 after2 x ops r
-true_end_along (answer.Committed n) size told kv kv2 after after2 x ops number same keeps number2 maps keeps2 h = final_along size told.1 kv kv2 after after2 x ops n number same keeps number2 maps keeps2 h
-true_end_along (Aborted' i box a) size told kv kv2 after after2 x ops number same keeps number2 maps keeps2 h = subst (λ w. DeviatesOn w size told.0 x ops i a) (sym (ap (metadata_at kv2) number ∙ same kv.number)) h
+pub true_end_along : (r : Answer) (size : ℕ) (told : Told × Told) (kv kv2 after after2 : Store Key Value) (x : TxnView) (ops : List (Op (List ℕ)))
+    → kv2.number ≡ kv.number → ((m : ℕ) → metadata_at kv2 m ≡ metadata_at kv m) → KeepsVersions kv kv2
+    → after2.number ≡ after.number → ((m : ℕ) → metadata_at after2 m ≡ metadata_at after m) → KeepsVersions after after2 → IsTrueEnd size told kv after x ops r
+    → IsTrueEnd size told kv2 after2 x ops r
+true_end_along (answer.Committed n) size told kv kv2 after after2 x ops number same keeps number2 maps keeps2 h =
+    final_along size told.1 kv kv2 after after2 x ops n number same keeps number2 maps keeps2 h
+true_end_along (Aborted' i box a) size told kv kv2 after after2 x ops number same keeps number2 maps keeps2 h =
+    subst (λ w. DeviatesOn w size told.0 x ops i a) (sym (ap (metadata_at kv2) number ∙ same kv.number)) h
 true_end_along r size told kv kv2 after after2 x ops number same keeps number2 maps keeps2 h = tt
 
-pub ended_along : (r : Answer) (kv kv2 after after2 : Store Key Value) → kv2.number ≡ kv.number → after2.number ≡ after.number → IsEnded kv after r → IsEnded kv2 after2 r
+pub ended_along : (r : Answer) (kv kv2 after after2 : Store Key Value) → kv2.number ≡ kv.number → after2.number ≡ after.number → IsEnded kv after r
+    → IsEnded kv2 after2 r
 ended_along (answer.Committed n) kv kv2 after after2 number number2 h = (h.0 ∙ ap (λ k. k + 1) (sym number), number2 ∙ h.1)
 ended_along (Aborted' i box a) kv kv2 after after2 number number2 h = number2 ∙ h ∙ sym number
 ended_along r kv kv2 after after2 number number2 h = absurd h

@@ -36,7 +36,8 @@ use Rattle.wtf_steps.specs.Faults.{MayStandFor}
 use Rattle.wtf_replay.specs.Views.{TxnView, in_hand, hand_of, replaying}
 use Rattle.wtf_replay.specs.Insides.{lists_have}
 use Rattle.wtf_replay.specs.Sounds.{tells_slice, caller_at, LogStands, TellsMap, IsAwayTxn}
-use Rattle.wtf_replay.specs.Causes.{IsAgainFault, MayAgainFault, FaultAt, ReplayFault, IsCommitFault, fault_answer, MayFaultAt, MayStepFault, MayEndFault, MayCommitFault}
+use Rattle.wtf_replay.specs.Causes.{IsAgainFault, MayAgainFault, FaultAt, ReplayFault, IsCommitFault, fault_answer, MayFaultAt, MayStepFault, MayEndFault}
+use Rattle.wtf_replay.specs.Causes.{MayCommitFault}
 use Rattle.wtf_replay.specs.Effects.{scope}
 use Rattle.wtf_replay.specs.Tried.{commit_from}
 use Rattle.wtf_replay.proofs.Froms.{from_along}
@@ -91,7 +92,8 @@ module _ (servers : ℕ) (answers : List Answer) (k : ℕ) (d : Answer) (is : sl
       may_at (op.Concat q ps) why (concat_done servers d) (subst (λ r. MayStandFor servers r d why) stands may)
   by_cause kind old new w s P kept o why stands cause may = subst (λ y. MayFaultAt servers answers k (fault_answer y)) (sym cause) tt
 
-pub step_fault : {S : Type 0} (kind : StoreKind S) (old new : Dev S) (kv : Store Key Value) (told : Told) (x : TxnView) (ops : List (Op (List ℕ))) (why : Fault) → LogStands old.settings.region kv told x ops
+pub step_fault : {S : Type 0} (kind : StoreKind S) (old new : Dev S) (kv : Store Key Value) (told : Told) (x : TxnView) (ops : List (Op (List ℕ))) (why : Fault)
+    → LogStands old.settings.region kv told x ops
     → FaultAt kind old new kv (hand_of x) (slice_get x.log.ops x.replayed) why → MayStepFault old.settings (metadata_at kv x.at.base) told x ops why
 step_fault kind old new kv told x ops why sound f t st =
     let size : ℕ = old.settings.region in
@@ -102,7 +104,8 @@ step_fault kind old new kv told x ops why sound f t st =
     let S : Session = session_after cap t (take x.replayed ops) in
     let ran = at_base size kv told x ops sound t st in
     let st2 = before_next size kv told x ops sound t st (omega (arith, within)) in
-    let may = f.due o (OpStandsFor-weaker (tells_slice told) (λ p bytes. Unit {0}) f.op o (λ sl bytes own h. tt) there.1.1) (caller_at size x.tx x.replayed) told S refl st2 ran.holds in
+    let may = f.due o (OpStandsFor-weaker (tells_slice told) (λ p bytes. Unit {0}) f.op o (λ sl bytes own h. tt) there.1.1)
+    (caller_at size x.tx x.replayed) told S refl st2 ran.holds in
     by_cause old.settings.servers (answers_of cap t ops) x.replayed (call cap S o).answer (answers_from-at cap (fresh t) ops x.replayed o there.1.0)
     kind old new (seen kv x.at) x.session (tells_slice told) f.op o why there.1.1 f.cause may
 
@@ -120,7 +123,8 @@ away_along kind dev ranges kv after x same away = record {
 }
 
 -- a replay's fault over a store that shows the same maps
-pub fault_along : {S : Type 0} (kind : StoreKind S) (old new : Dev S) (kv after : Store Key Value) (x : TxnView) (why : Fault) → ((m : ℕ) → metadata_at kv m ≡ metadata_at after m)
+pub fault_along : {S : Type 0} (kind : StoreKind S) (old new : Dev S) (kv after : Store Key Value) (x : TxnView) (why : Fault)
+    → ((m : ℕ) → metadata_at kv m ≡ metadata_at after m)
     → ReplayFault kind old new kv x why → ReplayFault kind old new after x why
 fault_along kind old new kv after x why same f = record {
   mid = f.mid;
@@ -149,7 +153,8 @@ fault_along kind old new kv after x why same f = record {
 }
 
 -- and a commit's over one that stays
-pub commit_fault_along : {S : Type 0} (kind : StoreKind S) (old new : Dev S) (kv mid : Store Key Value) (x : TxnView) (why : Fault) → Stays key_cmp kv mid → IsCommitFault kind old new mid x why → IsCommitFault kind old new kv x why
+pub commit_fault_along : {S : Type 0} (kind : StoreKind S) (old new : Dev S) (kv mid : Store Key Value) (x : TxnView) (why : Fault) → Stays key_cmp kv mid
+    → IsCommitFault kind old new mid x why → IsCommitFault kind old new kv x why
 commit_fault_along kind old new kv mid x why stays (inl short) = inl short
 commit_fault_along kind old new kv mid x why stays (inr f) =
     inr (subst (λ y. ReplayFault kind old new kv y why) (from_along kv mid x stays) (fault_along kind old new mid kv (commit_from mid x) why stays.maps f))
@@ -158,7 +163,8 @@ commit_fault_along kind old new kv mid x why stays (inr f) =
 pub replay_fault : {S : Type 0} {kind : StoreKind S} → KindLaws kind
     → (old new : Dev S) (kv : Store Key Value) (x : TxnView) (ops : List (Op (List ℕ))) (why : Fault) (ranges : List (ℕ × Range))
     → TellsMap kind old ranges (metadata_at kv x.at.base) → IsAwayTxn kind old ranges kv x
-    → LogStands old.settings.region kv (byte_at kind (stores old)) x ops → ReplayFault kind old new kv x why → MayCommitFault old.settings (metadata_at kv x.at.base) (byte_at kind (stores old)) x why
+    → LogStands old.settings.region kv (byte_at kind (stores old)) x ops → ReplayFault kind old new kv x why
+    → MayCommitFault old.settings (metadata_at kv x.at.base) (byte_at kind (stores old)) x why
 replay_fault {kind = kind} laws old new kv x ops why ranges tells away sound f t st =
     let y : TxnView = replaying x.tx f.at f.session x.log f.k in
     let told : Told = byte_at kind (stores f.mid) in
@@ -166,7 +172,8 @@ replay_fault {kind = kind} laws old new kv x ops why ranges tells away sound f t
     let here : LogStands f.mid.settings.region kv told y ops = subst (λ z. LogStands z kv told y ops) (sym size) (f.done ops ranges tells away sound) in
     let later = stands_later old.settings.region (byte_at kind (stores old)) told x.tx 0 (metadata_at kv x.at.base) t (tells_on laws f.goes.each) st in
     let stands : Stands f.mid.settings.region told x.tx 0 (metadata_at kv f.at.base) t =
-    subst (λ n. Stands f.mid.settings.region told x.tx 0 (metadata_at kv n) t) (sym f.base) (subst (λ z. Stands z told x.tx 0 (metadata_at kv x.at.base) t) (sym size) later) in
+    subst (λ n. Stands f.mid.settings.region told x.tx 0 (metadata_at kv n) t) (sym f.base)
+    (subst (λ z. Stands z told x.tx 0 (metadata_at kv x.at.base) t) (sym size) later) in
     let may = step_fault kind f.mid new kv told y ops why here f.fault t stands in
     let servers : f.mid.settings.servers ≡ old.settings.servers = ap (λ (s : Settings). s.servers) f.goes.settings in
     subst (λ n. MayEndFault n (fault_answer why)) servers (end_fault f.mid.settings.servers _ f.k (fault_answer why) may)

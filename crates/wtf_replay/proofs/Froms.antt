@@ -21,7 +21,8 @@ module _ (kv : Store Key Value) (x : TxnView) where
   over : stays_at kv x ≡ false → commit_from kv x ≡ rebased x kv.number
   over here = ap (λ (b : Bool). if b then x else rebased x kv.number) here
 
-  live : (way : Option Key) → x.replayed ≡ length x.log.ops → key_in_the_way key_cmp outcome_of x.at kv ≡ way → stays_at kv x ≡ (if is_some way then false else true)
+  live : (way : Option Key) → x.replayed ≡ length x.log.ops → key_in_the_way key_cmp outcome_of x.at kv ≡ way
+      → stays_at kv x ≡ (if is_some way then false else true)
   live way done is =
       ap (λ (b : Bool). if b then is_free kv x else nat_eq x.at.base kv.number) (eq-eqb x.replayed (length x.log.ops) done)
       ∙ ap (λ (k : Option Key). if is_some k then false else true) is
@@ -57,15 +58,19 @@ module _ (kv mid : Store Key Value) (x : TxnView) (stays : Stays key_cmp kv mid)
   -- the same key is in the way
   pub way_along : key_in_the_way key_cmp outcome_of x.at mid ≡ key_in_the_way key_cmp outcome_of x.at kv
   way_along =
-      let seen : version_of key_cmp mid mid.number ≡ version_of key_cmp kv kv.number = ap (version_of key_cmp mid) stays.same.number ∙ stays.versions kv.number in
+      let seen : version_of key_cmp mid mid.number ≡ version_of key_cmp kv kv.number = ap (version_of key_cmp mid) stays.same.number
+      ∙ stays.versions kv.number in
       let map : metadata_at mid mid.number ≡ metadata_at kv kv.number = ap (metadata_at mid) stays.same.number ∙ stays.maps kv.number in
-      ap (λ (v : Key → ℕ). or_else (find (λ (key : Key). nat_lt x.at.base (v key)) x.at.reads) (first_unfit key_cmp outcome_of x.at.changes (metadata_at mid mid.number))) seen
-      ∙ ap (λ (w : Map). or_else (find (λ (key : Key). nat_lt x.at.base (version_of key_cmp kv kv.number key)) x.at.reads) (first_unfit key_cmp outcome_of x.at.changes w)) map
+      ap (λ (v : Key → ℕ). or_else (find (λ (key : Key). nat_lt x.at.base (v key)) x.at.reads)
+      (first_unfit key_cmp outcome_of x.at.changes (metadata_at mid mid.number))) seen
+      ∙ ap (λ (w : Map). or_else (find (λ (key : Key). nat_lt x.at.base (version_of key_cmp kv kv.number key)) x.at.reads)
+      (first_unfit key_cmp outcome_of x.at.changes w)) map
 
   -- so a commit goes on from the same
   pub from_along : commit_from mid x ≡ commit_from kv x
   from_along =
       let free : is_free mid x ≡ is_free kv x = ap (λ (k : Option Key). if is_some k then false else true) way_along in
       let here : stays_at mid x ≡ stays_at kv x =
-      ap (λ (b : Bool). if is_txn_live x then b else nat_eq x.at.base mid.number) free ∙ ap (λ (n : ℕ). if is_txn_live x then is_free kv x else nat_eq x.at.base n) stays.same.number in
+      ap (λ (b : Bool). if is_txn_live x then b else nat_eq x.at.base mid.number) free
+      ∙ ap (λ (n : ℕ). if is_txn_live x then is_free kv x else nat_eq x.at.base n) stays.same.number in
       ap (λ (b : Bool). if b then x else rebased x mid.number) here ∙ ap (λ (n : ℕ). if stays_at kv x then x else rebased x n) stays.same.number

@@ -49,11 +49,13 @@ module _ (P R : List Place → Bool) (places : (qs : List Place) → P qs ≡ tr
   edits_stay (change.Cut from to ∷ cs) h = (tt, edits_stay cs h.1)
 
 -- the map that an attempt sees lies inside
-pub hand_seen : {S : Type 0} (kind : StoreKind S) (shelf : List S) (settings : Settings) (kv : Store Key Value) (hand : InHand) → IsHandInside kind shelf settings kv hand → IsStoredInside kind shelf settings (seen kv hand.at)
+pub hand_seen : {S : Type 0} (kind : StoreKind S) (shelf : List S) (settings : Settings) (kv : Store Key Value) (hand : InHand)
+    → IsHandInside kind shelf settings kv hand → IsStoredInside kind shelf settings (seen kv hand.at)
 hand_seen kind shelf settings kv hand h =
     with_bytes (is_inside kind shelf settings) any_slice refl hand.at.changes (metadata_at kv hand.at.base) h.base h.changes
 
-module _ {S : Type 0} {kind : StoreKind S} (laws : KindLaws kind) {old new : List S} (each : EachFollows kind old new []) (settings : Settings) (enough : settings.servers ≤ length old) where
+module _ {S : Type 0} {kind : StoreKind S} (laws : KindLaws kind) {old new : List S} (each : EachFollows kind old new []) (settings : Settings)
+    (enough : settings.servers ≤ length old) where
   on : (places : List Place) → is_inside kind old settings places ≡ true → is_inside kind new settings places ≡ true
   on = inside_stays laws each settings enough
 
@@ -72,7 +74,8 @@ module _ {S : Type 0} {kind : StoreKind S} (laws : KindLaws kind) {old new : Lis
   slice_later o h = slice_stays (is_inside kind old settings) (is_inside kind new settings) on o h
 
   pub log_later : (log : Calls) → IsLogInside kind old settings log → IsLogInside kind new settings log
-  log_later log h = All-weaker (λ (o : Op Kept). SliceBytes (is_inside kind old settings) (own_of o)) (λ (o : Op Kept). SliceBytes (is_inside kind new settings) (own_of o)) (λ (o : Op Kept) was. slice_later (own_of o) was) log.ops h
+  log_later log h = All-weaker (λ (o : Op Kept). SliceBytes (is_inside kind old settings) (own_of o))
+      (λ (o : Op Kept). SliceBytes (is_inside kind new settings) (own_of o)) (λ (o : Op Kept) was. slice_later (own_of o) was) log.ops h
 
   pub inside_later : (kv : Store Key Value) (x : TxnView) → IsInsideTxn kind old settings kv x → IsInsideTxn kind new settings kv x
   inside_later kv x h = record { hand = hand_later kv (in_hand x.at x.session) h.hand; log = log_later x.log h.log }
@@ -112,7 +115,8 @@ slice_from P None own is h = tt
 slice_from P (Some s) own is h = subst (SliceBytes P) is h
 
 -- and over a store that shows the same at the base
-pub hand_kept : {S : Type 0} (kind : StoreKind S) (shelf : List S) (settings : Settings) (kv after : Store Key Value) (at into : Attempted Key Delta) (s : SessionView) → into ≡ at → at.base ≤ kv.number → KeepsMaps kv after
+pub hand_kept : {S : Type 0} (kind : StoreKind S) (shelf : List S) (settings : Settings) (kv after : Store Key Value) (at into : Attempted Key Delta)
+    (s : SessionView) → into ≡ at → at.base ≤ kv.number → KeepsMaps kv after
     → IsHandInside kind shelf settings kv (in_hand at s) → IsHandInside kind shelf settings after (in_hand into s)
 hand_kept kind shelf settings kv after at into s same below maps h = subst (λ a. IsHandInside kind shelf settings after (in_hand a s)) (sym same) (record {
   base = subst (IsStoredInside kind shelf settings) (sym (maps at.base below)) h.base;
@@ -120,9 +124,11 @@ hand_kept kind shelf settings kv after at into s same below maps h = subst (λ a
   slices = h.slices;
 })
 
-pub txn_kept : {S : Type 0} (kind : StoreKind S) (shelf : List S) (settings : Settings) (kv after : Store Key Value) (x y : TxnView) → y.at ≡ x.at → y.session ≡ x.session → y.log ≡ x.log → x.at.base ≤ kv.number → KeepsMaps kv after
+pub txn_kept : {S : Type 0} (kind : StoreKind S) (shelf : List S) (settings : Settings) (kv after : Store Key Value) (x y : TxnView) → y.at ≡ x.at
+    → y.session ≡ x.session → y.log ≡ x.log → x.at.base ≤ kv.number → KeepsMaps kv after
     → IsInsideTxn kind shelf settings kv x → IsInsideTxn kind shelf settings after y
 txn_kept kind shelf settings kv after x y at session log below maps h = record {
-  hand = subst (λ s. IsHandInside kind shelf settings after (in_hand y.at s)) (sym session) (hand_kept kind shelf settings kv after x.at y.at x.session at below maps h.hand);
+  hand = subst (λ s. IsHandInside kind shelf settings after (in_hand y.at s)) (sym session)
+      (hand_kept kind shelf settings kv after x.at y.at x.session at below maps h.hand);
   log = subst (λ l. IsLogInside kind shelf settings l) (sym log) h.log;
 }

@@ -1,5 +1,6 @@
 -- What holds of a transaction over every device goes on holding.
-use Rattle.std.proofs.Common.{◌≡◌, ◌≢◌, ◌≤◌, ◌<◌, ℕ, zero, suc, ◌+◌, List, [], ◌∷◌, ◌++◌, Some, slice_get, true, false, nat_eq, length, refl, sym, ap, ◌∙◌, subst, arith, ⊎_elim}
+use Rattle.std.proofs.Common.{◌≡◌, ◌≢◌, ◌≤◌, ◌<◌, ℕ, zero, suc, ◌+◌, List, [], ◌∷◌, ◌++◌, Some, slice_get, true, false, nat_eq, length, refl, sym, ap, ◌∙◌}
+use Rattle.std.proofs.Common.{subst, arith, ⊎_elim}
 use Rattle.std.specs.Prelude.{IsTrue, if◌then◌else◌}
 use Rattle.std.proofs.lemmas.Bool.{cases_lt, eq-eqb, ne_eqb}
 use Rattle.std.proofs.lemmas.List.{length_push}
@@ -27,7 +28,8 @@ use Rattle.wtf_replay.specs.Tried.{KeepsMaps, KeepsPins, MovesPin}
 kept_push : (ops : List (Op Kept)) (shown : List Answer) (o : Op Kept) (a : Answer) → length shown ≡ length ops
     → ((k : ℕ) (p : Op Kept) (b : Answer) → slice_get ops k ≡ Some p → slice_get shown k ≡ Some b → IsKeptFor p b) → IsKeptFor o a
     → (k : ℕ) (p : Op Kept) (b : Answer) → slice_get (ops ++ o ∷ []) k ≡ Some p → slice_get (shown ++ a ∷ []) k ≡ Some b → IsKeptFor p b
-kept_push [] [] o a len h one zero p b e f = let same : o ≡ p = cc in let answer : a ≡ b = cc in subst (λ q. IsKeptFor q b) same (subst (λ c. IsKeptFor o c) answer one)
+kept_push [] [] o a len h one zero p b e f = let same : o ≡ p = cc in let answer : a ≡ b = cc in
+    subst (λ q. IsKeptFor q b) same (subst (λ c. IsKeptFor o c) answer one)
 kept_push [] [] o a len h one (suc k) p b e f = absurd (cc)
 kept_push (q ∷ ops) (c ∷ shown) o a len h one zero p b e f = h zero p b e f
 kept_push (q ∷ ops) (c ∷ shown) o a len h one (suc k) p b e f = kept_push ops shown o a (omega (arith, len)) (λ j. h (suc j)) one k p b e f
@@ -35,7 +37,8 @@ kept_push [] (c ∷ shown) o a len h one k p b e f = absurd (omega (arith, len))
 kept_push (q ∷ ops) [] o a len h one k p b e f = absurd (omega (arith, len))
 
 -- a log with one call more
-pub log_called : (log : Calls) (k : Op Kept) (a : Answer) → IsLog log → length log.ops ≢ MAX_LOGGED → IsFormOp IsKeptData k → IsLogged a → IsKeptFor k a → IsLog (with_call log k a)
+pub log_called : (log : Calls) (k : Op Kept) (a : Answer) → IsLog log → length log.ops ≢ MAX_LOGGED → IsFormOp IsKeptData k → IsLogged a → IsKeptFor k a
+    → IsLog (with_call log k a)
 log_called log k a is room form logged kept =
     let ops = length_push log.ops k in
     let shown = length_push log.shown a in
@@ -43,20 +46,23 @@ log_called log k a is room form logged kept =
     let few = is.few in
     record {
       answers = shown ∙ ap (λ n. n + 1) answers ∙ sym ops;
-      few = ⊎_elim (λ lt. omega (arith, ops, lt)) (λ le. let full : length log.ops ≡ MAX_LOGGED = omega (arith, le, few) in absurd (room full)) (cases_lt (length log.ops) MAX_LOGGED);
+      few = ⊎_elim (λ lt. omega (arith, ops, lt)) (λ le. let full : length log.ops ≡ MAX_LOGGED = omega (arith, le, few) in absurd (room full))
+          (cases_lt (length log.ops) MAX_LOGGED);
       form = All-push (IsFormOp IsKeptData) log.ops k is.form form;
       shown = All-push IsLogged log.shown a is.shown logged;
       kept = kept_push log.ops log.shown k a is.answers is.kept kept;
     }
 
 -- a transaction that stays as it was, but for its end, over a store that keeps its base
-pub fit_after : (kv after : Store Key Value) (x y : TxnView) → IsFit kv x → y.at ≡ x.at → y.log ≡ x.log → y.replayed ≡ x.replayed → x.at.base ≤ kv.number → KeepsMaps kv after → KeepsPins kv after → IsFit after y
+pub fit_after : (kv after : Store Key Value) (x y : TxnView) → IsFit kv x → y.at ≡ x.at → y.log ≡ x.log → y.replayed ≡ x.replayed → x.at.base ≤ kv.number
+    → KeepsMaps kv after → KeepsPins kv after → IsFit after y
 fit_after kv after x y fit at log replayed below maps pins =
     let same : times_pinned after x.at.base ≡ times_pinned kv x.at.base = pins x.at.base in
     let le : times_pinned kv x.at.base ≤ times_pinned after x.at.base = omega (arith, same) in
     record {
       pinned = subst (λ (a : Attempted Key Delta). IsTrue (is_pinned after a.base)) (sym at) (is_pinned-more kv after x.at.base fit.pinned le);
-      fits = subst (λ (a : Attempted Key Delta). AllFit a.changes (metadata_at after a.base)) (sym at) (subst (λ w. AllFit x.at.changes w) (sym (maps x.at.base below)) fit.fits);
+      fits = subst (λ (a : Attempted Key Delta). AllFit a.changes (metadata_at after a.base)) (sym at)
+          (subst (λ w. AllFit x.at.changes w) (sym (maps x.at.base below)) fit.fits);
       log = subst (λ l. IsLog l) (sym log) fit.log;
       most = subst (λ (l : Calls). y.replayed ≤ length l.ops) (sym log) (subst (λ n. n ≤ length x.log.ops) (sym replayed) fit.most);
     }
@@ -75,7 +81,8 @@ moved_pinned b n kv after later moves =
     any-count n after.pins (omega (arith, left))
 
 -- a pin that came and went
-pub pins_back : (kv pinned mid after : Store Key Value) (n : ℕ) → IsPinnedOnceMore n kv pinned → KeepsPins pinned mid → IsPinnedOnceMore n after mid → KeepsPins kv after
+pub pins_back : (kv pinned mid after : Store Key Value) (n : ℕ) → IsPinnedOnceMore n kv pinned → KeepsPins pinned mid → IsPinnedOnceMore n after mid
+    → KeepsPins kv after
 pins_back kv pinned mid after n more same fewer m =
     let up = more m in
     let down = fewer m in

@@ -46,12 +46,14 @@ node_later b told later w (Some (value.Node (FileNode i))) (Some (File paths byt
       };
       lead = h.lead;
       all = h.all;
+      count = h.count;
     }
 node_later b told later w (Some (value.Node Folder)) (Some (File paths bytes)) on map h = absurd h
 node_later b told later w (Some (value.Node (FileNode i))) (Some Dir) on map h = absurd h
 node_later b told later w (Some (value.Node Folder)) None on map h = absurd h
 node_later b told later w (Some (value.Node (FileNode i))) None on map h = absurd h
 node_later b told later w (Some (value.Names ns)) o on map h = absurd h
+node_later b told later w (Some (value.Count n)) o on map h = absurd h
 node_later b told later w (Some (value.Last r)) o on map h = absurd h
 node_later b told later w (Some (value.Region v)) o on map h = absurd h
 
@@ -61,16 +63,18 @@ stands_later b told later tx k w t on st = record {
   tree_is = st.tree_is;
   nodes = λ p. node_later b told later w (w (Path p)) _ on st.bytes (st.nodes p);
   names = st.names;
-  apart = st.apart;
   led = st.led;
   regions = st.regions;
+  counted = st.counted;
   bytes = map_stays (is_told told) (is_told later) (λ places h. is_told-later told later places on h) (is_listed b told) (is_listed b later)
       (λ s h. is_listed-later told later b s on h) w st.bytes;
   fresh = st.fresh;
+  few = st.few;
 }
 
 -- so calls that deviate over later stores deviate over the earlier ones
-pub deviates_since : (w : Map) (size : ℕ) (told later : Told) (x : TxnView) (ops : List (Op (List ℕ))) (i : ℕ) (a : Answer) → TellsOn told later → DeviatesOn w size later x ops i a → DeviatesOn w size told x ops i a
+pub deviates_since : (w : Map) (size : ℕ) (told later : Told) (x : TxnView) (ops : List (Op (List ℕ))) (i : ℕ) (a : Answer) → TellsOn told later
+    → DeviatesOn w size later x ops i a → DeviatesOn w size told x ops i a
 deviates_since w size told later x ops i a on h t st = h t (stands_later size told later x.tx 0 w t on st)
 
 -- stores that tell their content go on doing so

@@ -1,5 +1,6 @@
 -- Calls on names, as calls of a transaction with handles open.
-use Rattle.std.proofs.Common.{◌≡◌, ◌≢◌, ◌⊎◌, ℕ, Bool, true, false, cond, ◌||◌, List, [], ◌∷◌, map, Option, Some, None, Ok, refl, sym, ap, ◌∙◌, subst, inl, inr, ⊎_elim}
+use Rattle.std.proofs.Common.{◌≡◌, ◌≢◌, ◌⊎◌, ℕ, Bool, true, false, cond, ◌||◌, List, [], ◌∷◌, map, Option, Some, None, Ok, refl, sym, ap, ◌∙◌, subst, inl, inr}
+use Rattle.std.proofs.Common.{⊎_elim}
 use Rattle.std.specs.Prelude.{if◌then◌else◌, Err, IsSomeAnd}
 use Rattle.std.specs.List.{All, list_any}
 use Rattle.std.specs.FinMap.{get, entries, get-entries}
@@ -20,7 +21,7 @@ use Rattle.wtf_model.specs.Done.{Done, done, is_on, is_closed, drop_path, move_f
 use Rattle.wtf_model.specs.NameCalls.{unlink, rename}
 use Rattle.wtf_model.specs.Call.{row_of, or_refused}
 use Rattle.wtf_model.specs.Items.{target_reads}
-use Rattle.wtf_model.specs.declared.item.Item.TheVariants.{NodeOf, BodyOf}
+use Rattle.wtf_model.specs.declared.item.Item.TheVariants.{NodeOf, BodyOf, LinksOf}
 use Rattle.wtf_model.proofs.ItemLaws.{is_among-head}
 use Rattle.wtf_model.specs.declared.limits.TheConstants.{MAX_HANDLES}
 use Rattle.wtf_model.specs.declared.answer.Answer.{Answer}
@@ -149,9 +150,12 @@ busy_row most S p bytes o takes file busy = absurd takes
 -- it reads what stands there
 taken_read : (x : Caller) (b : Map) (s : SessionView) (p : List ℕ) (o : Op (List ℕ)) → Takes p o → KeysRead x b s (Path p ∷ []) o
 taken_read x b s p (op.Unlink q) takes = λ told w S agree st holds.
-    (subst (λ z. Has (NodeOf p) (NodeOf z ∷ [])) (sym takes) (is_among-head (NodeOf p) []), tt)
-taken_read x b s p (op.Rename q r) takes = λ told w S agree st holds.
-    (subst (λ z. Has (NodeOf p) (NodeOf z ∷ BodyOf z ∷ target_reads r)) (sym takes) (is_among-head (NodeOf p) (BodyOf p ∷ target_reads r)), tt)
+    (subst (λ z. Has (NodeOf p) (NodeOf z ∷ LinksOf z ∷ [])) (sym takes) (is_among-head (NodeOf p) (LinksOf p ∷ [])), tt)
+taken_read x b s p (op.Rename q r) takes = λ told w S agree st holds. (
+  subst (λ z. Has (NodeOf p) (NodeOf z ∷ BodyOf z ∷ LinksOf z ∷ target_reads r)) (sym takes)
+      (is_among-head (NodeOf p) (BodyOf p ∷ LinksOf p ∷ target_reads r)),
+  tt,
+)
 taken_read x b s p o takes = absurd takes
 
 pub busy_call : (x : Caller) (b : Map) (s : SessionView) (p : List ℕ) (old new : Attempted Key Delta) (o : Op (List ℕ))

@@ -48,21 +48,24 @@ slice_is : (o own : Option Slice) (bytes : List ℕ) → o ≡ own → IfSome o 
 slice_is None own bytes is = tt
 slice_is (Some s) own bytes is = (sym is, refl)
 
-keeps_data : (k : Kept) (own : Option Slice) (bytes : List ℕ) (call : List ℕ → Op (List ℕ)) → k.len ≡ length bytes → k.slice ≡ own → IsGiven (λ s b. (own ≡ Some s) × (b ≡ bytes)) k call (call bytes)
+keeps_data : (k : Kept) (own : Option Slice) (bytes : List ℕ) (call : List ℕ → Op (List ℕ)) → k.len ≡ length bytes → k.slice ≡ own
+    → IsGiven (λ s b. (own ≡ Some s) × (b ≡ bytes)) k call (call bytes)
 keeps_data k own bytes call len slice = record { bytes = bytes; is = refl; stands = record { len = len; slice = slice_is k.slice own bytes slice } }
 
 own_kept : (o own : Option Slice) → o ≡ own → IfSome o (λ s. own ≡ Some s)
 own_kept None own is = tt
 own_kept (Some s) own is = sym is
 
-whole_or : (k : Kept) (own : Option Slice) (bytes : List ℕ) (a : Answer) → k.len ≡ length bytes → k.slice ≡ own → (own ≡ None → (length bytes ≡ 0) ⊎ IsRefusal a) → (k.slice ≡ None → k.len ≡ 0) ⊎ IsRefusal a
+whole_or : (k : Kept) (own : Option Slice) (bytes : List ℕ) (a : Answer) → k.len ≡ length bytes → k.slice ≡ own
+    → (own ≡ None → (length bytes ≡ 0) ⊎ IsRefusal a) → (k.slice ≡ None → k.len ≡ 0) ⊎ IsRefusal a
 whole_or k None bytes a len slice lacks = elim (lacks refl) [
   | inl none ↦ inl (λ e. len ∙ none)
   | inr refused ↦ inr refused
 ]
 whole_or k (Some s) bytes a len slice lacks = inl (λ e. let bad : None ≡ Some s = sym e ∙ slice in absurd (cc))
 
-plain : (k : Kept) (own : Option Slice) (o : Op (List ℕ)) → OpStandsFor (λ s bytes. (own ≡ Some s) × (bytes ≡ call_data o)) (with_data k o) o → IfSome (own_of (with_data k o)) (λ s. own ≡ Some s)
+plain : (k : Kept) (own : Option Slice) (o : Op (List ℕ)) → OpStandsFor (λ s bytes. (own ≡ Some s) × (bytes ≡ call_data o)) (with_data k o) o
+    → IfSome (own_of (with_data k o)) (λ s. own ≡ Some s)
     → KeepsOwn (with_data k o) own → IsWholeOp (with_data k o) → IsKeptOf o own (with_data k o)
 plain k own o stands is keeps whole = record { stands = stands; own_is = is; keeps = keeps; lacks = λ a l. inl whole }
 

@@ -72,14 +72,19 @@ module _ {S : Type 0} (kind : StoreKind S) (old new : Dev S) (w : Map) (s : Sess
     pub file : rw_file old w s r ≡ grown_file old w s o
 
   pub fresh_ways : (r : RwOp) (o : Op (List ℕ)) → IsOpOf IsFresh r o → FreshWays r o
-  fresh_ways (rw.Write f (Fresh bs)) o (bytes, e, is) = subst (FreshWays (rw.Write f (Fresh bs))) (sym (e ∙ ap (op.Write f) is)) (record { own = λ q h. h; fault = λ why h. h; lacks = λ q a l. l; none = λ h. h; file = refl })
-  fresh_ways (rw.Append f (Fresh bs)) o (bytes, e, is) = subst (FreshWays (rw.Append f (Fresh bs))) (sym (e ∙ ap (op.Append f) is)) (record { own = λ q h. h; fault = λ why h. h; lacks = λ q a l. l; none = λ h. h; file = refl })
+  fresh_ways (rw.Write f (Fresh bs)) o (bytes, e, is) =
+      subst (FreshWays (rw.Write f (Fresh bs))) (sym (e ∙ ap (op.Write f) is))
+      (record { own = λ q h. h; fault = λ why h. h; lacks = λ q a l. l; none = λ h. h; file = refl })
+  fresh_ways (rw.Append f (Fresh bs)) o (bytes, e, is) =
+      subst (FreshWays (rw.Append f (Fresh bs))) (sym (e ∙ ap (op.Append f) is))
+      (record { own = λ q h. h; fault = λ why h. h; lacks = λ q a l. l; none = λ h. h; file = refl })
   fresh_ways (rw.Write f (Stored kept)) o (bytes, e, is) = absurd is
   fresh_ways (rw.Append f (Stored kept)) o (bytes, e, is) = absurd is
   fresh_ways r o e = subst (FreshWays r) (sym e) (record { own = λ q h. h; fault = λ why h. h; lacks = λ q a l none. inl refl; none = λ h. h; file = refl })
 
   -- the slice that was stored has as many bytes as the data
-  by_len : (o : Option Handle) (place : Handle → PlaceView) (bytes : List ℕ) (q : Option Slice) → OwnBy kind old new o place bytes q → IfSome q (λ sl. len_of sl ≡ length bytes)
+  by_len : (o : Option Handle) (place : Handle → PlaceView) (bytes : List ℕ) (q : Option Slice) → OwnBy kind old new o place bytes q
+      → IfSome q (λ sl. len_of sl ≡ length bytes)
   by_len None place bytes q h = subst (λ z. IfSome z (λ sl. len_of sl ≡ length bytes)) (sym h.1) tt
   by_len (Some g) place bytes None h = tt
   by_len (Some g) place bytes (Some sl) h = h.0.len
@@ -123,18 +128,21 @@ module _ {S : Type 0} (kind : StoreKind S) (old new : Dev S) (w : Map) (s : Sess
   own_known k o q is h = let still = subst (λ (z : Op (List ℕ)). IsOwnOf kind old new w s z q) is.stands h in sym still.1
 
   -- and the stores tell them there
-  tell_own : (place : PlaceView) (bytes : List ℕ) (q : Option Slice) → length (stores new) ≡ length (stores old) → TellsAll kind (stores old) → IsOwn kind old new place bytes q → TellSlice (byte_at kind (stores new)) q bytes
+  tell_own : (place : PlaceView) (bytes : List ℕ) (q : Option Slice) → length (stores new) ≡ length (stores old) → TellsAll kind (stores old)
+      → IsOwn kind old new place bytes q → TellSlice (byte_at kind (stores new)) q bytes
   tell_own place bytes None same tells is = tt
   tell_own place bytes (Some sl) same tells is =
       let holds = stored_bytes is.0 same tells in
       record { len = is.0.len; tells = λ i below. held_meaning (byte_at kind (stores new)) sl i (get_or bytes i 0) (holds i (omega (arith, below, is.0.len))) }
 
-  by_told : (o : Option Handle) (place : Handle → PlaceView) (bytes : List ℕ) (q : Option Slice) → length (stores new) ≡ length (stores old) → TellsAll kind (stores old) → OwnBy kind old new o place bytes q
+  by_told : (o : Option Handle) (place : Handle → PlaceView) (bytes : List ℕ) (q : Option Slice) → length (stores new) ≡ length (stores old)
+      → TellsAll kind (stores old) → OwnBy kind old new o place bytes q
       → TellSlice (byte_at kind (stores new)) q bytes
   by_told None place bytes q same tells h = subst (λ z. TellSlice (byte_at kind (stores new)) z bytes) (sym h.1) tt
   by_told (Some g) place bytes q same tells h = tell_own (place g) bytes q same tells h
 
-  pub own_told_of : (o : Op (List ℕ)) (q : Option Slice) → length (stores new) ≡ length (stores old) → TellsAll kind (stores old) → IsOwnOf kind old new w s o q → TellSlice (byte_at kind (stores new)) q (call_data o)
+  pub own_told_of : (o : Op (List ℕ)) (q : Option Slice) → length (stores new) ≡ length (stores old) → TellsAll kind (stores old) → IsOwnOf kind old new w s o q
+      → TellSlice (byte_at kind (stores new)) q (call_data o)
   own_told_of (op.Write f bytes) q same tells h = by_told (handle_in s f) _ bytes q same tells h
   own_told_of (op.Append f bytes) q same tells h = by_told (handle_in s f) _ bytes q same tells h
   own_told_of (op.Read f n) q same tells h = subst (λ z. TellSlice (byte_at kind (stores new)) z []) (sym h) tt
@@ -214,8 +222,7 @@ module _ (P : Slice → List ℕ → Type 0) where
 -- and one that is made once more is given the slice that a log kept
 kept_tell : (told : Told) (kept : Kept) (call : List ℕ → Op (List ℕ)) (bytes : List ℕ) (o : Op (List ℕ)) (own : Option Slice) → call bytes ≡ o
     → call_data (call bytes) ≡ bytes → own ≡ kept.slice → TellSlice told own (call_data o) → IfSome kept.slice (λ s. tells_slice told s bytes)
-kept_tell told kept call bytes o own is same slice tell =
-    some_tell told kept.slice bytes
+kept_tell told kept call bytes o own is same slice tell = some_tell told kept.slice bytes
     (subst (TellSlice told kept.slice) (ap call_data (sym is) ∙ same) (subst (λ (q : Option Slice). TellSlice told q (call_data o)) slice tell))
 
 pub again_tell : (told : Told) (r : RwOp) (k : Op Kept) (o : Op (List ℕ)) (bytes : List ℕ) → IsOpOf IsStored r k → op_of r bytes ≡ o
@@ -227,7 +234,8 @@ again_tell told (rw.Append f (Stored kept)) k o bytes (x, e, same) is tell =
 again_tell told r k o bytes e is tell = tt
 
 -- a call that is to store no byte stores no slice
-pub none_stored : {S : Type 0} (kind : StoreKind S) (old new : Dev S) (w : Map) (s : SessionView) (r : RwOp) (q : Option Slice) → StoresNone r → IsRwOwn kind old new w s r q → q ≡ None
+pub none_stored : {S : Type 0} (kind : StoreKind S) (old new : Dev S) (w : Map) (s : SessionView) (r : RwOp) (q : Option Slice) → StoresNone r
+    → IsRwOwn kind old new w s r q → q ≡ None
 none_stored kind old new w s (rw.Write f (Fresh bs)) q n h = absurd n
 none_stored kind old new w s (rw.Append f (Fresh bs)) q n h = absurd n
 none_stored kind old new w s (rw.Read f m) q n h = h

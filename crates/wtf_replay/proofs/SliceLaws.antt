@@ -90,7 +90,8 @@ slice_facts sc ranges s (Peek l off n) did does tells = does.told tells.slices
 slice_facts sc ranges s r did does tells = no_facts (told_in sc.kind sc.after) did.facts does.facts
 
 -- P holds of what it stored, which is nothing
-stored_bytes_none : {S : Type 0} (P : List Place → Bool) (sc : Scene S) (s : SessionView) (r : SliceOp) (did : Did) → DoesSlice sc s r did → PiecesBytes P did.stored
+stored_bytes_none : {S : Type 0} (P : List Place → Bool) (sc : Scene S) (s : SessionView) (r : SliceOp) (did : Did) → DoesSlice sc s r did
+    → PiecesBytes P did.stored
 stored_bytes_none P sc s r did does = subst (PiecesBytes P) (sym (stored_none sc s r did does)) (PiecesBytes-none P)
 
 -- what it did

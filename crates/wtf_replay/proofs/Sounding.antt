@@ -54,15 +54,20 @@ element (x ∷ xs) (suc k) lt = element xs k (omega arith)
 -- what was told stays told
 facts_later : (told later : Told) (es : List Fact) → TellsOn told later → TellFacts told es → TellFacts later es
 facts_later told later [] on h = tt
-facts_later told later (e ∷ es) on h = (TellBytes-later told later (pieces_len e.pieces) (pieces_origin e.pieces) e.bytes on h.0, facts_later told later es on h.1)
+facts_later told later (e ∷ es) on h = (
+  TellBytes-later told later (pieces_len e.pieces) (pieces_origin e.pieces) e.bytes on h.0,
+  facts_later told later es on h.1,
+)
 
 -- a transaction over stores that tell more
-pub sound_later : (size : ℕ) (kv : Store Key Value) (told later : Told) (x : TxnView) (ops : List (Op (List ℕ))) → TellsOn told later → LogStands size kv told x ops → LogStands size kv later x ops
+pub sound_later : (size : ℕ) (kv : Store Key Value) (told later : Told) (x : TxnView) (ops : List (Op (List ℕ))) → TellsOn told later
+    → LogStands size kv told x ops → LogStands size kv later x ops
 sound_later size kv told later x ops on sound = record {
   facts = sound.facts;
   stored = sound.stored;
   lists = sound.lists;
-  ops_are = OpsStandFor-weaker (tells_slice told) (tells_slice later) x.log.ops ops (λ k s bytes own. TellBytes-later told later (len_of s) (part_origin (Held s)) bytes on) sound.ops_are;
+  ops_are = OpsStandFor-weaker (tells_slice told) (tells_slice later) x.log.ops ops
+      (λ k s bytes own. TellBytes-later told later (len_of s) (part_origin (Held s)) bytes on) sound.ops_are;
   told_are = facts_later told later sound.facts on sound.told_are;
   stored_are = pieces_stay (is_told told) (is_told later) (λ places h. is_told-later told later places on h) sound.stored sound.stored_are;
   kept = sound.kept;
@@ -71,7 +76,8 @@ sound_later size kv told later x ops on sound = record {
 }
 
 -- a transaction over a store that shows the same at its base
-pub sound_along : (size : ℕ) (kv after : Store Key Value) (told : Told) (x : TxnView) (ops : List (Op (List ℕ))) → metadata_at after x.at.base ≡ metadata_at kv x.at.base → LogStands size kv told x ops → LogStands size after told x ops
+pub sound_along : (size : ℕ) (kv after : Store Key Value) (told : Told) (x : TxnView) (ops : List (Op (List ℕ)))
+    → metadata_at after x.at.base ≡ metadata_at kv x.at.base → LogStands size kv told x ops → LogStands size after told x ops
 sound_along size kv after told x ops same sound = record {
   facts = sound.facts;
   stored = sound.stored;
@@ -119,7 +125,8 @@ module _ (size : ℕ) (kv : Store Key Value) (told : Told) where
       let base : new.at.base ≡ old.at.base = step.step.grows.base in
       let b : Map = metadata_at kv old.at.base in
       let whole : Did = did_by new.at (sound.facts ++ did.facts) (sound.stored ++ did.stored) (sound.lists ++ did.lists) in
-      let is_call : IsCall (caller_at size old.tx (length (take old.replayed ops))) (seen kv old.at) old.session new.session did o a = subst (λ n. IsCall (caller_at size old.tx n) (seen kv old.at) old.session new.session did o a) (sym count) step.step.is_call in
+      let is_call : IsCall (caller_at size old.tx (length (take old.replayed ops))) (seen kv old.at) old.session new.session did o a =
+      subst (λ n. IsCall (caller_at size old.tx n) (seen kv old.at) old.session new.session did o a) (sym count) step.step.is_call in
       let run = run_goes_on size old.tx b old.session new.session old.at new.at sound.facts sound.stored sound.lists did (take old.replayed ops)
       (take old.replayed old.log.shown) o a sound.run step.step.grows is_call in
       record {
@@ -138,7 +145,8 @@ module _ (size : ℕ) (kv : Store Key Value) (told : Told) where
       }
 
   -- a call is logged
-  pub sound_called : (old new : TxnView) (ops : List (Op (List ℕ))) (o : Op (List ℕ)) (a : Answer) (kept : Op Kept) → LogStands size kv told old ops → IsLog old.log → old.replayed ≡ length old.log.ops
+  pub sound_called : (old new : TxnView) (ops : List (Op (List ℕ))) (o : Op (List ℕ)) (a : Answer) (kept : Op Kept) → LogStands size kv told old ops
+      → IsLog old.log → old.replayed ≡ length old.log.ops
       → IsToldStep told (own_of kept) (caller_at size old.tx old.replayed) (seen kv old.at) (hand_of old) (hand_of new) o a
       → new.tx ≡ old.tx → new.log ≡ with_call old.log kept a → new.replayed ≡ old.replayed + 1 → OpStandsFor (tells_slice told) kept o
       → LogStands size kv told new (ops ++ o ∷ [])
@@ -153,9 +161,11 @@ module _ (size : ℕ) (kv : Store Key Value) (told : Told) where
       sound_on old new ops (ops ++ o ∷ []) (own_of kept) o a sound step
       (λ P has. All-pop (λ (q : Op Kept). SliceBytes P (own_of q)) (old.log.ops ++ kept ∷ []) old.log.ops (Some kept) refl (subst (LogBytes P) logged has)) tx
       (ap length done ∙ sym count)
-      (subst (λ l. OpsStandFor (tells_slice told) l (ops ++ o ∷ [])) (sym (ap (λ l. l.ops) logged)) (OpsStandFor-push (tells_slice told) old.log.ops ops kept o sound.ops_are stand))
+      (subst (λ l. OpsStandFor (tells_slice told) l (ops ++ o ∷ [])) (sym (ap (λ l. l.ops) logged))
+      (OpsStandFor-push (tells_slice told) old.log.ops ops kept o sound.ops_are stand))
       (ap (λ n. take n (ops ++ o ∷ [])) (sym longer) ∙ take-length (ops ++ o ∷ []) ∙ ap (λ l. l ++ o ∷ []) (sym done))
-      (ap (λ l. take new.replayed l.shown) logged ∙ ap (λ n. take n (old.log.shown ++ a ∷ [])) (sym longer2) ∙ take-length (old.log.shown ++ a ∷ []) ∙ ap (λ l. l ++ a ∷ []) (sym told_so))
+      (ap (λ l. take new.replayed l.shown) logged ∙ ap (λ n. take n (old.log.shown ++ a ∷ [])) (sym longer2) ∙ take-length (old.log.shown ++ a ∷ [])
+      ∙ ap (λ l. l ++ a ∷ []) (sym told_so))
 
   -- a call was made once more, and answered what was shown
   pub sound_replayed : (old new : TxnView) (ops : List (Op (List ℕ))) (o : Op (List ℕ)) (a : Answer) (kept : Op Kept) → LogStands size kv told old ops
@@ -167,8 +177,7 @@ module _ (size : ℕ) (kv : Store Key Value) (told : Told) where
   sound_replayed old new ops o a kept sound most step at_kept at_op at_shown tx log replayed =
       let same : length old.log.ops ≡ length ops = OpsStandFor-length (tells_slice told) old.log.ops ops sound.ops_are in
       let le : old.replayed ≤ length ops = omega (arith, most, same) in
-      let up : new.replayed ≡ suc old.replayed = omega (arith, replayed) in
-      sound_on old new ops ops (own_of kept) o a sound step
+      let up : new.replayed ≡ suc old.replayed = omega (arith, replayed) in sound_on old new ops ops (own_of kept) o a sound step
       (λ P has. let was : LogBytes P old.log = subst (LogBytes P) log has in (was, log_at P old.log old.replayed kept at_kept was)) tx
       (length-take-le old.replayed ops le)
       (subst (λ l. OpsStandFor (tells_slice told) l.ops ops) (sym log) sound.ops_are)

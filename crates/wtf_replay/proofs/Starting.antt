@@ -13,7 +13,8 @@ use Rattle.wtf_replay.specs.Views.{TxnView, rebased}
 use Rattle.wtf_replay.specs.Sounds.{tells_slice, caller_at, LogStands}
 
 -- a transaction that begins again at a number
-pub sound_rebased : (size : ℕ) (kv : Store Key Value) (told : Told) (x : TxnView) (n : ℕ) (ops : List (Op (List ℕ))) → OpsStandFor (tells_slice told) x.log.ops ops → LogStands size kv told (rebased x n) ops
+pub sound_rebased : (size : ℕ) (kv : Store Key Value) (told : Told) (x : TxnView) (n : ℕ) (ops : List (Op (List ℕ)))
+    → OpsStandFor (tells_slice told) x.log.ops ops → LogStands size kv told (rebased x n) ops
 sound_rebased size kv told x n ops stand = record {
   facts = [];
   stored = [];

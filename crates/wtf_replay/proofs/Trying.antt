@@ -28,7 +28,8 @@ module _ (size : ℕ) (kv : Store Key Value) (told : Told) (x : TxnView) (ops : 
       ∙ ap (λ l. (ops, l)) (ap (λ n. take n x.log.shown) (live ∙ sym log.answers) ∙ take-length x.log.shown)
 
   -- what was installed is a commit by its meaning
-  pub final_from : (after : Store Key Value) (n : ℕ) → IsLog x.log → x.replayed ≡ length x.log.ops → IsInstalled key_cmp outcome_of x.at kv after n → IsFinal size told kv after x ops n
+  pub final_from : (after : Store Key Value) (n : ℕ) → IsLog x.log → x.replayed ≡ length x.log.ops → IsInstalled key_cmp outcome_of x.at kv after n
+      → IsFinal size told kv after x ops n
   final_from after n log live installed = record {
     at = x.at;
     session = x.session;
@@ -48,6 +49,7 @@ module _ (size : ℕ) (kv : Store Key Value) (told : Told) (x : TxnView) (ops : 
   }
 
 -- so on each tree for which the map now stands, the calls are the definitions' run
-pub final_ran : (size : ℕ) (told : Told) (kv after : Store Key Value) (x : TxnView) (ops : List (Op (List ℕ))) (n : ℕ) (f : IsFinal size told kv after x ops n) (t : Tree) → Stands size told x.tx 0 (metadata_at kv kv.number) t
+pub final_ran : (size : ℕ) (told : Told) (kv after : Store Key Value) (x : TxnView) (ops : List (Op (List ℕ))) (n : ℕ) (f : IsFinal size told kv after x ops n)
+    (t : Tree) → Stands size told x.tx 0 (metadata_at kv kv.number) t
     → Ran (caller_at size x.tx 0) told (metadata_at kv kv.number) (with f.at.changes (metadata_at kv kv.number)) f.session t (ops, x.log.shown)
 final_ran size told kv after x ops n f t st = f.run.acts told (metadata_at kv kv.number) t f.agree f.fits f.told_are f.lists_are st

@@ -17,8 +17,10 @@ use Rattle.wtf_replay.specs.Refusals.{unmade, try_refusal, step_refusal}
 pub unmade_none : (x : TxnView) → x.replayed ≡ length x.log.ops → length x.log.ops ≢ MAX_LOGGED → length x.log.ops ≤ MAX_LOGGED → unmade x ≡ None
 unmade_none x live room few =
     let under : length x.log.ops < MAX_LOGGED =
-    ⊎_elim (λ lt. lt) (λ le. let full : length x.log.ops ≡ MAX_LOGGED = omega (arith, le, few) in absurd (room full)) (cases_lt (length x.log.ops) MAX_LOGGED) in
-    ap (λ (b : Bool). option_map answer.Refused (if b then (if is_full x then Some Full else None) else Some Replaying)) (eq-eqb x.replayed (length x.log.ops) live)
+    ⊎_elim (λ lt. lt) (λ le. let full : length x.log.ops ≡ MAX_LOGGED = omega (arith, le, few) in absurd (room full))
+    (cases_lt (length x.log.ops) MAX_LOGGED) in
+    ap (λ (b : Bool). option_map answer.Refused (if b then (if is_full x then Some Full else None) else Some Replaying))
+    (eq-eqb x.replayed (length x.log.ops) live)
     ∙ ap (λ (b : Bool). option_map answer.Refused (if b then Some Full else None)) (lt-leb MAX_LOGGED (length x.log.ops) under)
 
 -- nor an attempt
@@ -35,4 +37,5 @@ if_none o P none = subst (λ q. IfSome q P) (sym none) tt
 
 -- a transaction whose attempt and session are what they were
 pub put_back : (x : TxnView) (at : Attempted Key Delta) (session : SessionView) → at ≡ x.at → session ≡ x.session → record x { at = at; session = session } ≡ x
-put_back x at session same held = ap (λ (a : Attempted Key Delta). record x { at = a; session = session }) same ∙ ap (λ (s : SessionView). record x { session = s }) held
+put_back x at session same held = ap (λ (a : Attempted Key Delta). record x { at = a; session = session }) same
+    ∙ ap (λ (s : SessionView). record x { session = s }) held

@@ -42,6 +42,7 @@ with_data x (op.Rmdir p) = op.Rmdir p
 with_data x (op.Create p) = op.Create p
 with_data x (op.Unlink p) = op.Unlink p
 with_data x (op.Rename p q) = op.Rename p q
+with_data x (op.Link p q) = op.Link p q
 with_data x (op.List p) = op.List p
 with_data x (op.Stat p) = op.Stat p
 with_data x (op.Open f p) = op.Open f p

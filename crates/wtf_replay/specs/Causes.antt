@@ -51,7 +51,8 @@ use Rattle.wtf_replay.specs.Effects.{scope, AreRedone}
 -- that are appended to that of the file's end
 abbrev pub IsOwnOf : {S : Type 0} → StoreKind S → (old new : Dev S) → Map → SessionView → Op (List ℕ) → Option Slice → Type 0
 IsOwnOf kind old new w s (op.Write f bytes) own = OwnBy kind old new (handle_in s f) (λ h. place_in old h.inode h.off) bytes own
-IsOwnOf kind old new w s (op.Append f bytes) own = OwnBy kind old new (handle_in s f) (λ h. place_in old h.inode (end_place old.settings.region (file_of h.inode w))) bytes own
+IsOwnOf kind old new w s (op.Append f bytes) own =
+    OwnBy kind old new (handle_in s f) (λ h. place_in old h.inode (end_place old.settings.region (file_of h.inode w))) bytes own
 IsOwnOf kind old new w s (op.Read f n) own = own ≡ None
 IsOwnOf kind old new w s (op.Yank f n label) own = own ≡ None
 IsOwnOf kind old new w s (op.Peek label off n) own = own ≡ None
@@ -110,7 +111,8 @@ abbrev pub MayAgainFault : Settings → Map → SessionView → Op Kept → Faul
 MayAgainFault settings w s k why = (o : Op (List ℕ)) → OpStandsFor (λ p bytes. ⊤) k o → MayFault settings w s o why
 
 -- the call of a log gave the fault when it was made once more with this in hand
-pub record FaultAt {S : Type 0} (kind : StoreKind S) (mid new : Dev S) (kv : Store Key Value) (hand : InHand) (call : Option (Op Kept)) (why : Fault) : Type 0 where
+pub record FaultAt {S : Type 0} (kind : StoreKind S) (mid new : Dev S) (kv : Store Key Value) (hand : InHand) (call : Option (Op Kept))
+    (why : Fault) : Type 0 where
   pub op : Op Kept
   pub at_op : call ≡ Some op
   pub cause : IsAgainFault kind mid new (seen kv hand.at) hand.session op why
@@ -156,7 +158,8 @@ MayFaultAt servers answers k (Some a) = IsDone (slice_get answers k) × IsReadFa
 -- on each tree for which the map stands
 abbrev pub MayStepFault : Settings → Map → Told → TxnView → List (Op (List ℕ)) → Fault → Type 0
 MayStepFault settings w told x ops why =
-    (t : Tree) → Stands settings.region told x.tx 0 w t → MayFaultAt settings.servers (answers_of (cap_for (caller_at settings.region x.tx 0)) t ops) x.replayed (fault_answer why)
+    (t : Tree) → Stands settings.region told x.tx 0 w t
+    → MayFaultAt settings.servers (answers_of (cap_for (caller_at settings.region x.tx 0)) t ops) x.replayed (fault_answer why)
 
 -- and where calls are replayed to an end, it allows each read's
 abbrev pub MayEndFault : ℕ → Option Answer → Type 0

@@ -1,7 +1,8 @@
 -- What a call of a transaction records and changes, by what it sees: its keys, in order and up to a refusal, and its changes,
 -- and nothing else.
 -- NSDI 2016, sections 2.3 to 2.6 (what a call read is what a later install of others may not have changed).
-use Rattle.std.specs.Prelude.{◌≡◌, ℕ, zero, suc, ◌+◌, ◌-◌, ◌*◌, ◌++◌, Bool, true, false, bytes_eq, if◌then◌else◌, List, [], ◌∷◌, length, Option, None, Some, slice_get}
+use Rattle.std.specs.Prelude.{◌≡◌, ℕ, zero, suc, ◌+◌, ◌-◌, ◌*◌, ◌++◌, Bool, true, false, bytes_eq, if◌then◌else◌, List, [], ◌∷◌, length, Option, None, Some}
+use Rattle.std.specs.Prelude.{slice_get}
 use Rattle.std.specs.List.{list_any}
 use Rattle.wtf_base.specs.declared.kept.Kept.{Kept}
 use Rattle.wtf_base.specs.declared.slice.Slice.{Slice}
@@ -29,8 +30,8 @@ use Rattle.wtf_meta.specs.Calls.{InHand}
 use Rattle.wtf_region.specs.declared.dev.Dev.{Dev}
 use Rattle.wtf_region.specs.Reads.{TellsFacts}
 use Rattle.wtf_index.specs.Checks.{stands_at}
-use Rattle.wtf_index.specs.Recorded.{target_keys, directory_keys, rmdir_keys, source_keys, rename_keys}
-use Rattle.wtf_index.specs.Changed.{mkdir_changes, rmdir_changes, create_changes, unlink_changes, rename_changes}
+use Rattle.wtf_index.specs.Recorded.{target_keys, directory_keys, rmdir_keys, unlink_keys, rename_keys}
+use Rattle.wtf_index.specs.Changed.{mkdir_changes, rmdir_changes, create_changes, unlink_changes, rename_changes, link_changes}
 use Rattle.wtf_steps.specs.Recorded.{append_keys, read_keys, found_in}
 use Rattle.wtf_steps.specs.Made.{Makes, LaysAt, AddsAt}
 use Rattle.wtf_steps.specs.Holding.{LeavesHand, MovesHandle, MovesOn}
@@ -74,8 +75,9 @@ abbrev pub call_keys : {D : Type 0} → Sight → ℕ → Op D → List Key
 call_keys x n (op.Mkdir p) = target_keys x.map p
 call_keys x n (op.Rmdir p) = rmdir_keys x.map p
 call_keys x n (op.Create p) = target_keys x.map p
-call_keys x n (op.Unlink p) = taken_keys x.map x.hand p (source_keys p)
+call_keys x n (op.Unlink p) = taken_keys x.map x.hand p (unlink_keys x.map p)
 call_keys x n (op.Rename p q) = taken_keys x.map x.hand p (rename_keys x.map p q)
+call_keys x n (op.Link p q) = rename_keys x.map p q
 call_keys x n (op.List p) = directory_keys x.map p
 call_keys x n (op.Stat p) = stat_keys x.map p
 call_keys x n (op.Open f p) = open_keys (handle_in x.hand f) p
@@ -95,6 +97,7 @@ CallMakes x own (op.Rmdir p) a old new = new.changes ≡ old.changes ++ rmdir_ch
 CallMakes x own (op.Create p) a old new = new.changes ≡ old.changes ++ create_changes x.map p x.new
 CallMakes x own (op.Unlink p) a old new = new.changes ≡ old.changes ++ taken_changes x.map x.hand p (unlink_changes x.map p)
 CallMakes x own (op.Rename p q) a old new = new.changes ≡ old.changes ++ taken_changes x.map x.hand p (rename_changes x.map p q)
+CallMakes x own (op.Link p q) a old new = new.changes ≡ old.changes ++ link_changes x.map p q
 CallMakes x own (op.Write f d) a old new = Makes a (OfSlice own (LaysAt x.size (handle_in x.hand f))) old new
 CallMakes x own (op.Append f d) a old new = Makes a (OfSlice own (AddsAt x.size x.map (handle_in x.hand f))) old new
 CallMakes x own (op.Truncate f n) a old new = Makes a (CutsAt x.size (handle_in x.hand f) n) old new

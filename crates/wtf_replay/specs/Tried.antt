@@ -99,4 +99,5 @@ pub record IsFinal (size : ℕ) (told : Told) (kv after : Store Key Value) (x : 
   pub next : n ≡ kv.number + 1
   pub number : after.number ≡ n
   pub map : metadata_at after n ≡ with at.changes (metadata_at kv kv.number)
-  pub versions : (q : Key) → versions_of key_cmp after q ≡ versions_with key_cmp outcome_of at.changes n q (metadata_at kv kv.number q) (versions_of key_cmp kv q)
+  pub versions : (q : Key) → versions_of key_cmp after q
+      ≡ versions_with key_cmp outcome_of at.changes n q (metadata_at kv kv.number q) (versions_of key_cmp kv q)

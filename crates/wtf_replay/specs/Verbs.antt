@@ -1,5 +1,6 @@
 -- What each verb of a transaction is lent and leaves, and what it does with that: a record a verb.
-use Rattle.std.specs.Prelude.{◌≡◌, ◌≢◌, ◌⊎◌, ◌<◌, ◌^◌, ℕ, true, false, List, [], ◌∷◌, ◌++◌, Option, None, Result, Ok, Err, IsSome, IfOk, IfErr, IfSome, OnOk, OnErr, slice_get}
+use Rattle.std.specs.Prelude.{◌≡◌, ◌≢◌, ◌⊎◌, ◌<◌, ◌^◌, ℕ, true, false, List, [], ◌∷◌, ◌++◌, Option, None, Result, Ok, Err, IsSome, IfOk, IfErr, IfSome, OnOk}
+use Rattle.std.specs.Prelude.{OnErr, slice_get}
 use Rattle.wtf_base.specs.declared.fault.Fault.{Fault}
 use Rattle.wtf_base.specs.declared.fault.Fault.TheVariants.{Memory}
 use Rattle.wtf_base.specs.declared.slice.Slice.{Slice}
@@ -92,7 +93,8 @@ pub record IsCallMade {S : Type 0} (t : Turn S) (o : Op (List ℕ)) (a : Answer)
 pub record CallOf {S : Type 0} (t : Turn S) (o : Op (List ℕ)) (r : Result Answer Fault) : Type 0 where
   pub instead : IfSome (unmade t.old) (λ a. (r ≡ Ok a) × (t.new ≡ t.old) × (t.after ≡ t.before))
   pub made : unmade t.old ≡ None → IfOk r (λ a. IsCallMade t o a)
-  pub meaning : unmade t.old ≡ None → OnOk r ((ops : List (Op (List ℕ))) → StartsSound t ops → LogStands (region_size t) t.kv (told_after t) t.new (ops ++ o ∷ []))
+  pub meaning : unmade t.old ≡ None → OnOk r ((ops : List (Op (List ℕ))) → StartsSound t ops
+      → LogStands (region_size t) t.kv (told_after t) t.new (ops ++ o ∷ []))
   pub fit : IsFit t.kv t.new
   pub inside : IsInsideTxn t.kind (stores t.after) t.before.settings t.kv t.new
   pub err : IfErr r (λ why. why ≢ Memory → t.new ≡ t.old)
@@ -119,7 +121,8 @@ pub record StepOf {S : Type 0} (t : Turn S) (r : Result Answer Fault) : Type 0 w
   pub refused : IfSome (step_refusal t.old) (λ w. (r ≡ Ok (answer.Refused w)) × (t.new ≡ t.old) × (t.after ≡ t.before))
   pub stepped : step_refusal t.old ≡ None → IfOk r (λ a. IsStepped t.old t.new a)
   pub acts : step_refusal t.old ≡ None → IfOk r (λ a. ActsAgain t a)
-  pub meaning : step_refusal t.old ≡ None → IfOk r (λ a. (ops : List (Op (List ℕ))) → StartsSound t ops → IsTrueStep (region_size t) (told_before t, told_after t) t.kv (t.old, t.new) ops a)
+  pub meaning : step_refusal t.old ≡ None → IfOk r (λ a. (ops : List (Op (List ℕ))) → StartsSound t ops
+      → IsTrueStep (region_size t) (told_before t, told_after t) t.kv (t.old, t.new) ops a)
   pub named : OnOk r (NamesTxn t.kind t.before t.after t.kv t.old t.new None)
   pub fit : IsFit t.kv t.new
   pub inside : IsInsideTxn t.kind (stores t.after) t.before.settings t.kv t.new
@@ -178,7 +181,8 @@ pub record FinishOf {S : Type 0} (t : Turn S) (r : Result Answer Fault) : Type 0
   pub pins : KeepsPins t.kv t.left
   pub err_store : OnErr r ((t.left.number ≡ t.kv.number) × KeepsVersions t.kv t.left)
   pub fault : IfErr r (λ why. (why ≡ Memory) ⊎ ReplayFault t.kind t.before t.after t.kv t.old why)
-  pub due : IfErr r (λ why. (ops : List (Op (List ℕ))) → StartsNow t ops → MayCommitFault t.before.settings (metadata_at t.kv t.kv.number) (told_before t) t.old why)
+  pub due : IfErr r (λ why. (ops : List (Op (List ℕ))) → StartsNow t ops
+      → MayCommitFault t.before.settings (metadata_at t.kv t.kv.number) (told_before t) t.old why)
   pub reads : OnlyRead t.kind (between t.before t.after)
   pub dev : GoesOn t.kind t.before t.after []
 
@@ -197,6 +201,7 @@ pub record CommitOf {S : Type 0} (t : Turn S) (r : Result Answer Fault) : Type 0
   pub err : OnErr r (t.new ≡ t.old)
   pub err_store : OnErr r ((t.left.number ≡ t.kv.number) × KeepsVersions t.kv t.left)
   pub fault : IfErr r (λ why. IsCommitFault t.kind t.before t.after t.kv t.old why)
-  pub due : IfErr r (λ why. (ops : List (Op (List ℕ))) → StartsNow t ops → MayCommitFault t.before.settings (metadata_at t.kv t.kv.number) (told_before t) t.old why)
+  pub due : IfErr r (λ why. (ops : List (Op (List ℕ))) → StartsNow t ops
+      → MayCommitFault t.before.settings (metadata_at t.kv t.kv.number) (told_before t) t.old why)
   pub reads : OnlyRead t.kind (between t.before t.after)
   pub dev : GoesOn t.kind t.before t.after []

@@ -1,20 +1,20 @@
 //! The calls on names.
 
-ghost use Rattle.std.specs.Prelude.{◌≡◌, List, false, IsTrue, IfOk};
+ghost use Rattle.std.specs.Prelude.{◌≡◌, ◌<◌, ◌^◌, List, false, IsTrue, IfOk};
 ghost use Rattle.wtf_kv.specs.Stores.{is_pinned};
 ghost use Rattle.wtf_occ.specs.Attempts.{Grows, GrowsBy};
 ghost use Rattle.wtf_model.specs.Steps.{IsLogged};
 ghost use Rattle.wtf_meta.specs.Maps.{seen};
 ghost use Rattle.wtf_meta.specs.Calls.{Caller};
 ghost use Rattle.wtf_replay.specs.Built.{is_rw_op, is_slice_op};
-ghost use Rattle.wtf_index.specs.Recorded.{source_keys, rename_keys};
+ghost use Rattle.wtf_index.specs.Recorded.{unlink_keys, rename_keys};
 ghost use Rattle.wtf_index.specs.Changed.{unlink_changes, rename_changes};
 ghost use Rattle.wtf_replay.specs.Looked.{IsLooked, IsNameCall, IsNamed};
 ghost use Rattle.wtf_replay.specs.Effects.{taken_keys, taken_changes};
 
 use std::alloc::Global;
 use wtf_base::{InodeId, OutOfMemory};
-use wtf_index::{create, list, mkdir, rename, rmdir, unlink};
+use wtf_index::{create, link, list, mkdir, rename, rmdir, unlink};
 use wtf_kv::Kv;
 use wtf_meta::Session;
 use wtf_model::{Answer, Op, Word};
@@ -44,10 +44,19 @@ pub(crate) fn name_call<D>(
         Op::Create(p) => return create(alloc, kv, at, p, new),
         Op::Unlink(p) => return unlink_closed(alloc, kv, at, session, p),
         Op::Rename(p, q) => return rename_closed(alloc, kv, at, session, p, q),
+        Op::Link(p, q) => {
+            number_fits(new);
+            return link(alloc, kv, at, p, q);
+        }
         Op::List(p) => return list(alloc, kv, at, p),
         _ => unreachable!(),
     }
 }
+
+/// The number of a call fits its type.
+fn number_fits(new: InodeId)
+    ensures { new.index < 2 ^ 32 }
+{}
 
 /// Takes out a file, unless a handle is on it.
 fn unlink_closed(
@@ -61,7 +70,8 @@ fn unlink_closed(
     ensures taken { IfOk result (λ a. ((x : Caller) →
         IsNameCall x (seen kv.now at.old) session.now at.old at.new (Op.Unlink p.now) a) ×
         GrowsBy at.old at.new
-        (taken_keys (seen kv.now at.old) session.now p.now (source_keys p.now))
+        (taken_keys (seen kv.now at.old) session.now p.now
+        (unlink_keys (seen kv.now at.old) p.now))
         (taken_changes (seen kv.now at.old) session.now p.now
         (unlink_changes (seen kv.now at.old) p.now)) × IsLogged a) }
     ensures grows { Grows at.old at.new }

@@ -117,6 +117,7 @@ fn keeping(op: Op<Bytes>, kept: Kept) -> Op<Kept>
         Op::Create(p) => Op::Create(p),
         Op::Unlink(p) => Op::Unlink(p),
         Op::Rename(p, q) => Op::Rename(p, q),
+        Op::Link(p, q) => Op::Link(p, q),
         Op::List(p) => Op::List(p),
         Op::Stat(p) => Op::Stat(p),
         Op::Open(f, p) => Op::Open(f, p),

@@ -1,10 +1,10 @@
-use Rattle.std.proofs.Common.{◌≡◌, ◌+◌, ℕ, List, [], ◌∙◌, append-nil, refl}
+use Rattle.std.proofs.Common.{◌≡◌, ◌+◌, ◌^◌, ◌<◌, ℕ, List, [], ◌∙◌, append-nil, refl, arith}
 use Rattle.std.proofs.lemmas.Result.{IfOk-weaker}
 use Rattle.wtf_model.specs.declared.op.Op.TheVariants as op
 use Rattle.wtf_model.specs.Steps.{IsLogged}
 use Rattle.wtf_meta.specs.Maps.{Map, seen}
 use Rattle.wtf_meta.specs.Calls.{Caller, IsNameStep}
-use Rattle.wtf_index.specs.Changed.{mkdir_changes, rmdir_changes, create_changes, unlink_changes, rename_changes}
+use Rattle.wtf_index.specs.Changed.{mkdir_changes, rmdir_changes, create_changes, unlink_changes, rename_changes, link_changes}
 use Rattle.wtf_slicing.specs.Sights.{sight}
 use Rattle.wtf_replay.specs.Effects.{taken_changes}
 use Rattle.wtf_replay.proofs.EffectLaws.{if_all, if_both, acts_name}
@@ -80,6 +80,22 @@ returns-in-Rename-clause-named g c =
     (λ size n own. acts_name (sight size b s c.args.new []) n own (op.Rename p q) a at new
     (taken_changes b s p (rename_changes b p q)) taken.1 (λ changes. changes))
     (λ size own. refl) taken.2) c.rename_closed.ensures.taken
+
+pub returns-in-Link-clause-named : goal.returns-in-Link-clause-named
+returns-in-Link-clause-named g c =
+    let at = c.args.at.now in
+    let new = c.link.new.at in
+    let b : Map = seen c.args.kv.now at in
+    let s = c.args.session.now in
+    let p : List ℕ = c.in-Link.p in
+    let q : List ℕ = c.in-Link.q in
+    let made = c.args.new in
+    if_all c.link.result (λ a. ((x : Caller) → x.calls < 2 ^ 32 → IsNameStep x b at new (op.Link p q) a) × IsLogged a) _
+    c.link.ensures.went
+    (if_both c.link.result _ _ c.link.ensures.step c.link.ensures.logged) (λ a went both. is_named c.args.op.now (op.Link p q) c.in-Link.is
+    (λ x next. quiet_call x b s at new (op.Link p q) a (both.0 x (omega (arith, next.index, c.number_fits.ensures))) tt)
+    (λ size n own. acts_name (sight size b s made []) n own (op.Link p q) a at new (link_changes b p q) went (λ changes. changes))
+    (λ size own. refl) both.1)
 
 pub returns-in-List-clause-named : goal.returns-in-List-clause-named
 returns-in-List-clause-named g c =

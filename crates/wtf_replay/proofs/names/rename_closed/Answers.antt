@@ -21,8 +21,11 @@ returns-then-busy-clause-taken c =
     let s = c.args.session.now in
     let p : List ℕ = c.args.p.now in
     let q : List ℕ = c.args.q.now in
-    let looked = subst (λ (busy : Bool). IsLooked b s p at c.is_busy.new.at busy) c.if-busy.true c.in_ok-busy.ensures.looked in
-    (λ x. busy_call x b s p at c.is_busy.new.at (op.Rename p q) refl looked, busy_went b s p at c.is_busy.new.at (rename_keys b p q) (rename_changes b p q) looked, tt)
+    let looked = subst (λ (busy : Bool). IsLooked b s p at c.is_busy.new.at busy) c.if-busy.true c.in_ok-busy.ensures.looked in (
+      λ x. busy_call x b s p at c.is_busy.new.at (op.Rename p q) refl looked,
+      busy_went b s p at c.is_busy.new.at (rename_keys b p q) (rename_changes b p q) looked,
+      tt,
+    )
 
 pub returns-clause-taken : goal.returns-clause-taken
 returns-clause-taken c =

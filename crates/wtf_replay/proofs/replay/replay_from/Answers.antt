@@ -83,8 +83,10 @@ loop-k-preserved g c =
     let a = c.in-Ok.both.0 in
     let shown = made.same.0 c.if-not-same.false in
     let named = next_named w c.args.tx.0 log c.loop-k.k a made.next in
-    let inside : IsHandInside kind (stores mid) mid.settings kv there = subst (λ (s : Settings). IsHandInside kind (stores mid) s kv there) (sym inv.dev.settings) inv.inside in
-    let logged : IsLogInside kind (stores mid) mid.settings log = subst (λ (s : Settings). IsLogInside kind (stores mid) s log) (sym inv.dev.settings) inv.logged in
+    let inside : IsHandInside kind (stores mid) mid.settings kv there =
+    subst (λ (s : Settings). IsHandInside kind (stores mid) s kv there) (sym inv.dev.settings) inv.inside in
+    let logged : IsLogInside kind (stores mid) mid.settings log =
+    subst (λ (s : Settings). IsLogInside kind (stores mid) s log) (sym inv.dev.settings) inv.logged in
     record {
       from = omega (arith, from);
       upto = omega (arith, left);
@@ -102,7 +104,8 @@ loop-k-preserved g c =
           (next_redoes w c.args.tx.0 log c.loop-k.k a made.next shown start refl refl) in (
             inv.redone.0 ++ one.lists,
             redone_more whole kv start (c.loop-k.k - c.args.from) (c.loop-k.k + 1 - c.args.from) c.loop-k.k inv.redone.0 there next (omega (arith, from)) here
-                (redone_later (scope kind dev mid) whole refl (scope_later laws dev made.dev) kv start (c.loop-k.k - c.args.from) inv.redone.0 there inv.redone.1) one,
+                (redone_later (scope kind dev mid) whole refl (scope_later laws dev made.dev) kv start
+                (c.loop-k.k - c.args.from) inv.redone.0 there inv.redone.1) one,
             recalled_on inv.redone.0 one.lists (remembered dev) (remembered mid) (remembered new) inv.redone.2 made.next.again.acted.recalls,
           );
       sound = λ ops ranges tells away begins.
@@ -180,17 +183,20 @@ returns-then-not-same g c =
             subst (λ n. TellsMap kind mid ranges (metadata_at kv n)) (sym inv.grows.base)
             (tells_map_on laws inv.dev ranges (metadata_at kv c.args.at.now.base) tells) in
             let away_mid : IsAwayTxn kind mid ranges kv x = replay_away laws inv.dev ranges kv begun x ops start tells away refl inv.named in
-            let sound : LogStands mid.settings.region kv (byte_at kind (stores mid)) x ops = subst (λ z. LogStands z kv (byte_at kind (stores mid)) x ops) (sym size)
+            let sound : LogStands mid.settings.region kv (byte_at kind (stores mid)) x ops =
+            subst (λ z. LogStands z kv (byte_at kind (stores mid)) x ops) (sym size)
             (inv.sound ops ranges tells away start) in
             let differs : slice_get log.shown c.loop-k.k ≢ Some a = λ e.
             let hit : c.in-Ok.both.1 ≡ true = made.same.1 e in let bad : true ≡ false = sym hit ∙ c.if-not-same.true in cc in
             let other = again_other laws made.dev ranges kv x ops sound tells_mid away_mid left a
             (λ kept o at. next_due w c.args.tx.0 log c.loop-k.k a made.next ranges kept o at) differs in
             let here = subst (λ z. DeviatesOn (metadata_at kv c.loop-k.at.base) z (byte_at kind (stores mid)) x ops (c.loop-k.k + 1) a) size other in
-            let first = deviates_since (metadata_at kv c.loop-k.at.base) dev.settings.region (byte_at kind (stores dev)) (byte_at kind (stores mid)) x ops (c.loop-k.k + 1) a (tells_on laws inv.dev.each) here in
+            let first = deviates_since (metadata_at kv c.loop-k.at.base) dev.settings.region (byte_at kind (stores dev)) (byte_at kind (stores mid)) x ops
+            (c.loop-k.k + 1) a (tells_on laws inv.dev.each) here in
             λ t st. first t (subst (λ b. Stands dev.settings.region (byte_at kind (stores dev)) c.args.tx.0 0 (metadata_at kv b) t) made.grows.base st);
         redone = λ none. absurd (cc);
-        named = again_on laws inv.dev made.dev kv (in_hand c.args.at.now c.args.session.now) there next log inv.named (next_named w c.args.tx.0 log c.loop-k.k a made.next);
+        named = again_on laws inv.dev made.dev kv (in_hand c.args.at.now c.args.session.now) there next log inv.named
+            (next_named w c.args.tx.0 log c.loop-k.k a made.next);
         fault = tt;
         fit = next_fit w c.args.tx.0 log c.loop-k.k a made.next inv.fit;
         grows = Grows-on c.args.at.now c.loop-k.at c.make_again.new.at inv.grows made.grows;
@@ -217,7 +223,8 @@ returns g c =
             (replaying c.args.tx.0 c.loop-k.at c.loop-k.session log n) ops) all (inv.sound ops ranges tells away start);
         redone = λ none. (
           inv.redone.0,
-          subst (λ (n : ℕ). AreRedone (scope kind dev c.loop-k.dev) kv (replaying c.args.tx.0 c.args.at.now c.args.session.now log c.args.from) (n - c.args.from)
+          subst (λ (n : ℕ). AreRedone (scope kind dev c.loop-k.dev) kv
+              (replaying c.args.tx.0 c.args.at.now c.args.session.now log c.args.from) (n - c.args.from)
               inv.redone.0 (in_hand c.loop-k.at c.loop-k.session)) all inv.redone.1,
           inv.redone.2,
         );

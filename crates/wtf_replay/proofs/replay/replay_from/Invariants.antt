@@ -31,6 +31,7 @@ invariant-loop-k g l = record {
       (replaying l.tx.0 l.initial.at l.initial.session l.log l.from) (l.k - l.from) lists (in_hand l.at l.session) × Recalls l.initial.dev l.dev lists;
   sound : (ops : List (Op (List ℕ))) (ranges : List (ℕ × Range)) → TellsMap g.S.SliceStore.kind l.initial.dev ranges (metadata_at l.kv l.initial.at.base)
       → IsAwayTxn g.S.SliceStore.kind l.initial.dev ranges l.kv (replaying l.tx.0 l.initial.at l.initial.session l.log l.from)
-      → LogStands l.initial.dev.settings.region l.kv (byte_at g.S.SliceStore.kind (stores l.initial.dev)) (replaying l.tx.0 l.initial.at l.initial.session l.log l.from) ops
+      → LogStands l.initial.dev.settings.region l.kv (byte_at g.S.SliceStore.kind (stores l.initial.dev))
+      (replaying l.tx.0 l.initial.at l.initial.session l.log l.from) ops
       → LogStands l.initial.dev.settings.region l.kv (byte_at g.S.SliceStore.kind (stores l.dev)) (replaying l.tx.0 l.at l.session l.log l.k) ops;
 }

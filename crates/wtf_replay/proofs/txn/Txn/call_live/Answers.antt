@@ -70,12 +70,18 @@ returns g c =
     let first = made.first in
     let i = c.self.inside in
     let x : TxnView = record { tx = i.tx.0; at = i.at; session = i.session; log = i.log; replayed = i.replayed; ended = i.ended } in
-    let new : TxnView = record x { at = c.make_fresh.new.at; session = c.make_fresh.new.session; log = c.note.new.log; replayed = c.self.inside.replayed + 1 } in
+    let new : TxnView = record x {
+      at = c.make_fresh.new.at;
+      session = c.make_fresh.new.session;
+      log = c.note.new.log;
+      replayed = c.self.inside.replayed + 1;
+    } in
     let fit : IsFit kv x = subst (λ y. IsFit kv y) (sym c.self.view_is) c.requires.fit in
     let live : x.replayed ≡ length x.log.ops = subst (λ (y : TxnView). y.replayed ≡ length y.log.ops) (sym c.self.view_is) c.requires.live in
     let room : length x.log.ops ≢ MAX_LOGGED = subst (λ (y : TxnView). length y.log.ops ≢ MAX_LOGGED) (sym c.self.view_is) c.requires.room in
     let logged = log_called x.log kept.result a fit.log room kept.ensures.form first.logged (kept.ensures.kept.lacks a first.lacks) in
-    let was : IsInsideTxn kind (stores dev) dev.settings kv x = subst (λ y. IsInsideTxn kind (stores dev) dev.settings kv y) (sym c.self.view_is) c.requires.inside in
+    let was : IsInsideTxn kind (stores dev) dev.settings kv x =
+    subst (λ y. IsInsideTxn kind (stores dev) dev.settings kv y) (sym c.self.view_is) c.requires.inside in
     let later = log_later laws made.dev.each dev.settings c.requires.sound.shelf x.log was.log in
     let w = work kind dev into kv (hand_of x) (hand_of new) in
     let by : Caller = caller_at size x.tx x.replayed in
@@ -113,10 +119,12 @@ returns g c =
               done = first.done;
             };
             meaning = λ going ops start.
-                let told_own : TellSlice told own (call_data o) = own_told_of kind dev into (seen kv x.at) x.session o own made.dev.each.same_length start.1.all first.own in
+                let told_own : TellSlice told own (call_data o) = own_told_of kind dev into
+                (seen kv x.at) x.session o own made.dev.each.same_length start.1.all first.own in
                 let stands : OpStandsFor (tells_slice told) kept.result o =
                 OpStandsFor-weaker _ (tells_slice told) kept.result o
-                (λ s bytes there h. subst (λ (l : List ℕ). TellBytes told (len_of s) (part_origin (Held s)) l) (sym h.1) (subst (λ z. TellSlice told z (call_data o)) h.0 told_own)) kept.ensures.kept.stands in
+                (λ s bytes there h. subst (λ (l : List ℕ). TellBytes told (len_of s) (part_origin (Held s)) l) (sym h.1)
+                (subst (λ z. TellSlice told z (call_data o)) h.0 told_own)) kept.ensures.kept.stands in
                 let steps = told_of w by own o a does (sym (ap (λ (st : Settings). st.region) made.dev.settings)) start.0
                 (tells_hand kind dev start.0 kv x ops start.3 start.1 start.2) told_own in
                 sound_called size kv told x new ops o a kept.result (sound_later size kv before told x ops
@@ -128,12 +136,14 @@ returns g c =
               pinned = subst (λ b. IsTrue (is_pinned kv b)) (sym made.grows.base) fit.pinned;
               fits = fit_of w by own o a does fit.fits;
               log = subst (λ l. IsLog l) (sym c.in_default.ensures.ok) logged;
-              most = subst (λ l. c.self.inside.replayed + 1 ≤ length l.ops) (sym c.in_default.ensures.ok) (let more = length_push x.log.ops kept.result in omega (arith, live, more));
+              most = subst (λ l. c.self.inside.replayed + 1 ≤ length l.ops) (sym c.in_default.ensures.ok)
+                  (let more = length_push x.log.ops kept.result in omega (arith, live, more));
             };
             inside = record {
               hand = inside_by laws made.dev c.requires.sound.shelf kv (hand_of x) (hand_of new) own hand was.hand own_inside;
               log = subst (λ l. IsLogInside kind (stores into) dev.settings l) (sym c.in_default.ensures.ok)
-                  (All-push (λ k. SliceBytes P (own_of k)) x.log.ops kept.result later (slice_from P (own_of kept.result) own kept.ensures.kept.own_is own_inside));
+                  (All-push (λ k. SliceBytes P (own_of k)) x.log.ops kept.result later
+                  (slice_from P (own_of kept.result) own kept.ensures.kept.own_is own_inside));
             };
             err = tt;
             err_hand = tt;
@@ -160,8 +170,10 @@ returns-in-Err g c =
     let fit : IsFit kv x = subst (λ y. IsFit kv y) (sym c.self.view_is) c.requires.fit in
     let live : x.replayed ≡ length x.log.ops = subst (λ (y : TxnView). y.replayed ≡ length y.log.ops) (sym c.self.view_is) c.requires.live in
     let room : length x.log.ops ≢ MAX_LOGGED = subst (λ (y : TxnView). length y.log.ops ≢ MAX_LOGGED) (sym c.self.view_is) c.requires.room in
-    let was : IsInsideTxn kind (stores dev) dev.settings kv x = subst (λ y. IsInsideTxn kind (stores dev) dev.settings kv y) (sym c.self.view_is) c.requires.inside in
-    let same : record x { at = c.make_fresh.new.at; session = c.make_fresh.new.session } ≡ x = put_back x c.make_fresh.new.at c.make_fresh.new.session made.err.0 made.err.1 in
+    let was : IsInsideTxn kind (stores dev) dev.settings kv x =
+    subst (λ y. IsInsideTxn kind (stores dev) dev.settings kv y) (sym c.self.view_is) c.requires.inside in
+    let same : record x { at = c.make_fresh.new.at; session = c.make_fresh.new.session } ≡ x =
+    put_back x c.make_fresh.new.at c.make_fresh.new.session made.err.0 made.err.1 in
     let there : CallOf (turn kind dev into kv kv x x) o (Err why) = record {
       instead = if_none (unmade x) _ (unmade_none x live room fit.log.few);
       made = λ going. tt;
@@ -178,7 +190,8 @@ returns-in-Err g c =
     } in
     record {
       call =
-          subst (λ (y : TxnView). CallOf (turn kind dev into kv kv y (record x { at = c.make_fresh.new.at; session = c.make_fresh.new.session })) o (Err why)) c.self.view_is
+          subst (λ (y : TxnView). CallOf (turn kind dev into kv kv y (record x { at = c.make_fresh.new.at; session = c.make_fresh.new.session })) o
+          (Err why)) c.self.view_is
           (subst (λ (y : TxnView). CallOf (turn kind dev into kv kv x y) o (Err why)) (sym same) there);
     }
 
@@ -202,7 +215,8 @@ returns-in-Err-note g c =
     let fit : IsFit kv x = subst (λ y. IsFit kv y) (sym c.self.view_is) c.requires.fit in
     let live : x.replayed ≡ length x.log.ops = subst (λ (y : TxnView). y.replayed ≡ length y.log.ops) (sym c.self.view_is) c.requires.live in
     let room : length x.log.ops ≢ MAX_LOGGED = subst (λ (y : TxnView). length y.log.ops ≢ MAX_LOGGED) (sym c.self.view_is) c.requires.room in
-    let was : IsInsideTxn kind (stores dev) dev.settings kv x = subst (λ y. IsInsideTxn kind (stores dev) dev.settings kv y) (sym c.self.view_is) c.requires.inside in
+    let was : IsInsideTxn kind (stores dev) dev.settings kv x =
+    subst (λ y. IsInsideTxn kind (stores dev) dev.settings kv y) (sym c.self.view_is) c.requires.inside in
     let later = inside_later g.met.S.SliceStore.laws made.dev.each dev.settings c.requires.sound.shelf kv x was in
     let grown = hand_of (record x { at = c.make_fresh.new.at; session = c.make_fresh.new.session }) in
     let w = work kind dev into kv (hand_of x) grown in
@@ -213,7 +227,8 @@ returns-in-Err-note g c =
     (named_of w by own o c.in-Ok.done.answer (first.does by calls)) was.hand (own_inside_of kind dev into (seen kv x.at) x.session o own first.own) in
     let back : c.rewind.new.self ≡ x.at = c.rewind.ensures.back c.self.inside.at made.grows c.mark-mark.ensures in
     let same : new ≡ moved =
-    ap (λ (a : Attempted Key Delta). record moved { at = a; log = c.note.new.log }) back ∙ ap (λ (l : Calls). record moved { log = l }) c.in-Err-note.ensures.err in
+    ap (λ (a : Attempted Key Delta). record moved { at = a; log = c.note.new.log }) back
+    ∙ ap (λ (l : Calls). record moved { log = l }) c.in-Err-note.ensures.err in
     let there : CallOf (turn kind dev into kv kv x moved) o (Err why) = record {
       instead = if_none (unmade x) _ (unmade_none x live room fit.log.few);
       made = λ going. tt;

@@ -12,7 +12,8 @@ go_on-requires-clause-from g c =
     let i = c.self.inside in
     let x : TxnView = record { tx = i.tx.0; at = i.at; session = i.session; log = i.log; replayed = i.replayed; ended = i.ended } in
     let off : is_txn_live c.args.self.now ≡ false = sym c.if-is_live.ensures in
-    let left : x.replayed ≢ length x.log.ops = subst (λ (y : TxnView). y.replayed ≢ length y.log.ops) (sym c.self.view_is) (eqb-false c.args.self.now.replayed (length c.args.self.now.log.ops) off) in
+    let left : x.replayed ≢ length x.log.ops = subst (λ (y : TxnView). y.replayed ≢ length y.log.ops) (sym c.self.view_is)
+    (eqb-false c.args.self.now.replayed (length c.args.self.now.log.ops) off) in
     let number = c.number.ensures.number in
     let base = c.base.ensures in
     let test = c.if-base-number.true in
@@ -26,7 +27,8 @@ start_over-requires-clause-from g c =
     let i = c.self.inside in
     let x : TxnView = record { tx = i.tx.0; at = i.at; session = i.session; log = i.log; replayed = i.replayed; ended = i.ended } in
     let off : is_txn_live c.args.self.now ≡ false = sym c.if-is_live.ensures in
-    let left : x.replayed ≢ length x.log.ops = subst (λ (y : TxnView). y.replayed ≢ length y.log.ops) (sym c.self.view_is) (eqb-false c.args.self.now.replayed (length c.args.self.now.log.ops) off) in
+    let left : x.replayed ≢ length x.log.ops = subst (λ (y : TxnView). y.replayed ≢ length y.log.ops) (sym c.self.view_is)
+    (eqb-false c.args.self.now.replayed (length c.args.self.now.log.ops) off) in
     let number = c.number.ensures.number in
     let base = c.base.ensures in
     let test = c.if-base-number.false in

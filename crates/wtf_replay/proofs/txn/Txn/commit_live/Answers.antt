@@ -30,7 +30,8 @@ returns-in-Installed g c =
     let live : x.replayed ≡ length x.log.ops = subst (λ (y : TxnView). y.replayed ≡ length y.log.ops) (sym c.self.view_is) c.requires.live in
     let below : x.at.base ≤ kv.number = subst (λ m. x.at.base ≤ m) c.number-number.ensures.number (c.number-number.ensures.pins x.at.base ready.fit.pinned) in
     let keeps : KeepsPins kv mid = λ m. ap (count_by (nat_eq m)) c.install.ensures.pins in
-    let installed : IsInstalled key_cmp outcome_of x.at kv mid n = subst (λ t. IsTried key_cmp outcome_of x.at kv mid t) c.in-Installed.is c.in-Ok.ensures.tried in
+    let installed : IsInstalled key_cmp outcome_of x.at kv mid n =
+    subst (λ t. IsTried key_cmp outcome_of x.at kv mid t) c.in-Installed.is c.in-Ok.ensures.tried in
     let is : new ≡ record x { ended = true } = ap (λ (a : Attempted Key Delta). record x { at = a; ended = true }) c.install.ensures.attempt in
     let t = turn kind dev dev kv mid x new in
     record {
@@ -52,7 +53,8 @@ start_over-requires-clause-ready g c =
     let ready : CanCommit kind dev kv x = subst (λ y. CanCommit kind dev kv y) (sym c.self.view_is) c.requires.ready in
     let below : x.at.base ≤ kv.number = subst (λ m. x.at.base ≤ m) c.number-number.ensures.number (c.number-number.ensures.pins x.at.base ready.fit.pinned) in
     let keeps : KeepsPins kv mid = λ m. ap (count_by (nat_eq m)) c.install.ensures.pins in
-    let tried : IsConflict key_cmp outcome_of x.at kv mid c.in-Conflict.key c.in-Conflict.seen c.in-Conflict.now = subst (λ t. IsTried key_cmp outcome_of x.at kv mid t) c.in-Conflict.is c.in-Ok.ensures.tried in
+    let tried : IsConflict key_cmp outcome_of x.at kv mid c.in-Conflict.key c.in-Conflict.seen c.in-Conflict.now =
+    subst (λ t. IsTried key_cmp outcome_of x.at kv mid t) c.in-Conflict.is c.in-Ok.ensures.tried in
     subst (λ (a : Attempted Key Delta). CanCommit kind dev mid (record x { at = a })) (sym c.install.ensures.attempt)
     (ready_along kind dev kv mid x tried.stays keeps below ready)
 
@@ -63,7 +65,8 @@ start_over-requires-clause-from g c =
     let i = c.self.inside in
     let x : TxnView = record { tx = i.tx.0; at = i.at; session = i.session; log = i.log; replayed = i.replayed; ended = i.ended } in
     let live : x.replayed ≡ length x.log.ops = subst (λ (y : TxnView). y.replayed ≡ length y.log.ops) (sym c.self.view_is) c.requires.live in
-    let tried : IsConflict key_cmp outcome_of x.at kv mid c.in-Conflict.key c.in-Conflict.seen c.in-Conflict.now = subst (λ t. IsTried key_cmp outcome_of x.at kv mid t) c.in-Conflict.is c.in-Ok.ensures.tried in
+    let tried : IsConflict key_cmp outcome_of x.at kv mid c.in-Conflict.key c.in-Conflict.seen c.in-Conflict.now =
+    subst (λ t. IsTried key_cmp outcome_of x.at kv mid t) c.in-Conflict.is c.in-Ok.ensures.tried in
     subst (λ (a : Attempted Key Delta). commit_from mid (record x { at = a }) ≡ rebased (record x { at = a }) mid.number) (sym c.install.ensures.attempt)
     (from_way mid x c.in-Conflict.key live (way_along kv mid x tried.stays ∙ tried.names))
 
@@ -80,9 +83,11 @@ returns-in-Conflict g c =
     let i = c.self.inside in
     let x : TxnView = record { tx = i.tx.0; at = i.at; session = i.session; log = i.log; replayed = i.replayed; ended = i.ended } in
     let keeps : KeepsPins kv mid = λ m. ap (count_by (nat_eq m)) c.install.ensures.pins in
-    let tried : IsConflict key_cmp outcome_of x.at kv mid c.in-Conflict.key c.in-Conflict.seen c.in-Conflict.now = subst (λ t. IsTried key_cmp outcome_of x.at kv mid t) c.in-Conflict.is c.in-Ok.ensures.tried in
+    let tried : IsConflict key_cmp outcome_of x.at kv mid c.in-Conflict.key c.in-Conflict.seen c.in-Conflict.now =
+    subst (λ t. IsTried key_cmp outcome_of x.at kv mid t) c.in-Conflict.is c.in-Ok.ensures.tried in
     let there : CommitOf (turn kind dev into mid after x last) r =
-    subst (λ (a : Attempted Key Delta). CommitOf (turn kind dev into mid after (record x { at = a }) last) r) c.install.ensures.attempt c.start_over.ensures.commit in
+    subst (λ (a : Attempted Key Delta). CommitOf (turn kind dev into mid after
+    (record x { at = a }) last) r) c.install.ensures.attempt c.start_over.ensures.commit in
     record {
       commit =
           subst (λ (y : TxnView). CommitOf (turn kind dev into kv after y last) r) c.self.view_is

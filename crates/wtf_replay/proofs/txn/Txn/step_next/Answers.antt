@@ -38,7 +38,8 @@ returns-then-same g c =
     let new : TxnView = record x { at = c.make_again.new.at; session = c.make_again.new.session; replayed = c.self.inside.replayed + 1 } in
     let fit : IsFit kv x = subst (λ y. IsFit kv y) (sym c.self.view_is) c.requires.fit in
     let left : x.replayed < length x.log.ops = subst (λ (y : TxnView). y.replayed < length y.log.ops) (sym c.self.view_is) c.requires.left in
-    let was : IsInsideTxn kind (stores dev) dev.settings kv x = subst (λ y. IsInsideTxn kind (stores dev) dev.settings kv y) (sym c.self.view_is) c.requires.inside in
+    let was : IsInsideTxn kind (stores dev) dev.settings kv x =
+    subst (λ y. IsInsideTxn kind (stores dev) dev.settings kv y) (sym c.self.view_is) c.requires.inside in
     let w = work kind dev into kv (hand_of x) (hand_of new) in
     let a = c.in-Ok-make_again.both.0 in
     let again = next_named w x.tx x.log x.replayed a made.next in
@@ -64,7 +65,10 @@ returns-then-same g c =
               log = fit.log;
               most = omega (arith, left);
             };
-            inside = record { hand = again_inside laws made.dev c.requires.sound.shelf kv (hand_of x) (hand_of new) x.log again was.hand was.log; log = log_later laws made.dev.each dev.settings c.requires.sound.shelf x.log was.log };
+            inside = record {
+              hand = again_inside laws made.dev c.requires.sound.shelf kv (hand_of x) (hand_of new) x.log again was.hand was.log;
+              log = log_later laws made.dev.each dev.settings c.requires.sound.shelf x.log was.log;
+            };
             err = tt;
             fault = tt;
             due = tt;
@@ -88,9 +92,11 @@ returns g c =
     let new : TxnView = record x { at = c.make_again.new.at; session = c.make_again.new.session; ended = true } in
     let fit : IsFit kv x = subst (λ y. IsFit kv y) (sym c.self.view_is) c.requires.fit in
     let left : x.replayed < length x.log.ops = subst (λ (y : TxnView). y.replayed < length y.log.ops) (sym c.self.view_is) c.requires.left in
-    let was : IsInsideTxn kind (stores dev) dev.settings kv x = subst (λ y. IsInsideTxn kind (stores dev) dev.settings kv y) (sym c.self.view_is) c.requires.inside in
+    let was : IsInsideTxn kind (stores dev) dev.settings kv x =
+    subst (λ y. IsInsideTxn kind (stores dev) dev.settings kv y) (sym c.self.view_is) c.requires.inside in
     let a = c.in-Ok-make_again.both.0 in
-    let differs : slice_get x.log.shown x.replayed ≢ Some a = λ e. let hit : c.in-Ok-make_again.both.1 ≡ true = made.same.1 e in let bad : true ≡ false = sym hit ∙ c.if-same.false in cc in
+    let differs : slice_get x.log.shown x.replayed ≢ Some a = λ e. let hit : c.in-Ok-make_again.both.1 ≡ true = made.same.1 e in let bad : true ≡ false =
+    sym hit ∙ c.if-same.false in cc in
     let r : Result Answer Fault = Ok (answer.Aborted (c.self.inside.replayed + 1) (with_value c.in-Ok.held a)) in
     let w = work kind dev into kv (hand_of x) (hand_of new) in
     let again = next_named w x.tx x.log x.replayed a made.next in
@@ -111,7 +117,10 @@ returns g c =
               log = fit.log;
               most = fit.most;
             };
-            inside = record { hand = again_inside laws made.dev c.requires.sound.shelf kv (hand_of x) (hand_of new) x.log again was.hand was.log; log = log_later laws made.dev.each dev.settings c.requires.sound.shelf x.log was.log };
+            inside = record {
+              hand = again_inside laws made.dev c.requires.sound.shelf kv (hand_of x) (hand_of new) x.log again was.hand was.log;
+              log = log_later laws made.dev.each dev.settings c.requires.sound.shelf x.log was.log;
+            };
             err = tt;
             fault = tt;
             due = tt;
@@ -136,8 +145,10 @@ returns-in-Err-make_again g c =
     let why = c.in-Err-make_again.why in
     let fit : IsFit kv x = subst (λ y. IsFit kv y) (sym c.self.view_is) c.requires.fit in
     let left : x.replayed < length x.log.ops = subst (λ (y : TxnView). y.replayed < length y.log.ops) (sym c.self.view_is) c.requires.left in
-    let was : IsInsideTxn kind (stores dev) dev.settings kv x = subst (λ y. IsInsideTxn kind (stores dev) dev.settings kv y) (sym c.self.view_is) c.requires.inside in
-    let same : record x { at = c.make_again.new.at; session = c.make_again.new.session } ≡ x = put_back x c.make_again.new.at c.make_again.new.session made.err.0 made.err.1 in
+    let was : IsInsideTxn kind (stores dev) dev.settings kv x =
+    subst (λ y. IsInsideTxn kind (stores dev) dev.settings kv y) (sym c.self.view_is) c.requires.inside in
+    let same : record x { at = c.make_again.new.at; session = c.make_again.new.session } ≡ x =
+    put_back x c.make_again.new.at c.make_again.new.session made.err.0 made.err.1 in
     let there : StepOf (turn kind dev into kv kv x x) (Err why) = record {
       refused = if_none (step_refusal x) _ (step_none x left);
       stepped = λ going. tt;
@@ -154,6 +165,7 @@ returns-in-Err-make_again g c =
     } in
     record {
       step =
-          subst (λ (y : TxnView). StepOf (turn kind dev into kv kv y (record x { at = c.make_again.new.at; session = c.make_again.new.session })) (Err why)) c.self.view_is
+          subst (λ (y : TxnView). StepOf (turn kind dev into kv kv y (record x { at = c.make_again.new.at; session = c.make_again.new.session }))
+          (Err why)) c.self.view_is
           (subst (λ (y : TxnView). StepOf (turn kind dev into kv kv x y) (Err why)) (sym same) there);
     }
