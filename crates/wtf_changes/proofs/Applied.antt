@@ -24,7 +24,8 @@ same_changes : (x y : ChangeRows) (bytes : List ℕ) → HasChanges x bytes → 
 same_changes x y bytes a b = (one_changes x y _ a.shape b.shape (sym b.text ∙ a.text ∙ sym (append-nil (changes_text x)))).0
 
 module _ (image changes : List ℕ) (x : ImageRows) (ch : ChangeRows) (is : HasText x image) (are : HasChanges ch changes) where
-  pub has_applied : (before after : DraftRows) (z : ImageRows) (bytes : List ℕ) → before ≡ taken x → changed before ch ≡ Some after → z ≡ written after → bytes ≡ image_text z → IsWide z → HasApplied image changes bytes
+  pub has_applied : (before after : DraftRows) (z : ImageRows) (bytes : List ℕ) → before ≡ taken x → changed before ch ≡ Some after → z ≡ written after
+      → bytes ≡ image_text z → IsWide z → HasApplied image changes bytes
   has_applied before after z bytes drawn made rows text wide =
       let made-of : changed (taken x) ch ≡ Some after = ap (λ d. changed d ch) (sym drawn) ∙ made in
       let sorted : IsSortedDraft after = changed-sorted (taken x) after ch (taken-sorted x) made-of in
@@ -40,7 +41,8 @@ module _ (image changes : List ℕ) (x : ImageRows) (ch : ChangeRows) (is : HasT
 
   none_applied : (before : DraftRows) → before ≡ taken x → changed before ch ≡ None → AreNoChanges image changes
   none_applied before drawn none y other has its =
-      (λ k. applied (same_image y x image has is k) (same_changes other ch changes its are k)) ∙ ap (option_map written) (ap (λ d. changed d ch) (sym drawn) ∙ none)
+      (λ k. applied (same_image y x image has is k) (same_changes other ch changes its are k))
+      ∙ ap (option_map written) (ap (λ d. changed d ch) (sym drawn) ∙ none)
 
   pub refused_made : (before : DraftRows) (why : ApplyError) → before ≡ taken x → IsUnmade (changed before ch) why → IsApplyRefusal image changes why
   refused_made before error.NotChanges drawn none = none_applied before drawn none

@@ -39,15 +39,18 @@ module _ (es : List (InodeId × FileDraft)) where
   pub file_gone : (i : InodeId) → seen file_entry (remove_entry (is_at (inode_cmp i)) es) ≡ file_set (seen file_entry es) i None
   file_gone i = remove-seen inode_cmp file_entry es i
 
-  pub file_stays : (i : InodeId) (n : ℕ) (f : FileDraft) → f.last ≡ n → seen value_row f.regions.entries ≡ regions_kept (option_map file_entry (lookup (is_at (inode_cmp i)) es))
+  pub file_stays : (i : InodeId) (n : ℕ) (f : FileDraft) → f.last ≡ n
+      → seen value_row f.regions.entries ≡ regions_kept (option_map file_entry (lookup (is_at (inode_cmp i)) es))
       → seen file_entry (put_back inode_cmp es i f) ≡ file_set (seen file_entry es) i (Some n)
   file_stays i n f last regions =
-      let its : seen value_row f.regions.entries ≡ regions_kept (file_found (seen file_entry es) i) = regions ∙ ap regions_kept (lookup-seen inode_cmp file_entry es i) in
+      let its : seen value_row f.regions.entries ≡ regions_kept (file_found (seen file_entry es) i) = regions
+      ∙ ap regions_kept (lookup-seen inode_cmp file_entry es i) in
       let entry : file_entry f ≡ with_last n (file_found (seen file_entry es) i) = λ k. record { last = last k; regions = its k } in
       put_back-seen inode_cmp file_entry es i f ∙ ap (put_back inode_cmp (seen file_entry es) i) entry
 
   module _ (c : RegionChangeRow) where
-    found_is : (o : Option FileDraft) → lookup (is_at (inode_cmp c.inode)) es ≡ o → region_set (seen file_entry es) c ≡ region_set_in (option_map file_entry o) (seen file_entry es) c
+    found_is : (o : Option FileDraft) → lookup (is_at (inode_cmp c.inode)) es ≡ o
+        → region_set (seen file_entry es) c ≡ region_set_in (option_map file_entry o) (seen file_entry es) c
     found_is o is = ap (λ f. region_set_in f (seen file_entry es) c) (sym (lookup-seen inode_cmp file_entry es c.inode) ∙ ap (option_map file_entry) is)
 
     pub region_refused : lookup (is_at (inode_cmp c.inode)) es ≡ None → is_some c.value ≡ true → region_set (seen file_entry es) c ≡ None

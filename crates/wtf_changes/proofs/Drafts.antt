@@ -13,7 +13,8 @@ use Rattle.wtf_imagefmt.specs.Shapes.{path_before, file_before, region_before, A
 use Rattle.wtf_imagefmt.specs.Writing.{IsWide}
 use Rattle.wtf_imagefmt.proofs.Gathered.{image_form}
 use Rattle.wtf_changes.specs.Rows.{ChangeRows}
-use Rattle.wtf_changes.specs.Drafts.{set_all, DraftRows, value_taken, regions_taken, file_taken, node_taken, taken, node_change, files_set, regions_set, header_with, changed, path_written, region_written, file_written, written}
+use Rattle.wtf_changes.specs.Drafts.{set_all, DraftRows, value_taken, regions_taken, file_taken, node_taken, taken, node_change, files_set, regions_set}
+use Rattle.wtf_changes.specs.Drafts.{header_with, changed, path_written, region_written, file_written, written}
 use Rattle.wtf_changes.proofs.Sets.{set_all-sorted, rows-rise}
 use Rattle.wtf_changes.proofs.Files.{Entries, InOrder, AreFilesSorted, inode_total, set_file-all, files_set-sorted, regions_set-sorted}
 
@@ -23,7 +24,9 @@ pub record IsSortedDraft (d : DraftRows) : Type 0 where
 
 taken-regions : (fs : List FileRow) (es : Entries) → InOrder es → InOrder (set_all inode_cmp es (map file_taken fs))
 taken-regions [] es h = h
-taken-regions (f ∷ fs) es h = taken-regions fs (set_all inode_cmp es (file_taken f ∷ [])) (set_file-all es f.inode (record { last = f.last; regions = regions_taken f.regions }) h (set_all-sorted {X = ValueRow} nat_cmp_total [] (map value_taken f.regions) tt))
+taken-regions (f ∷ fs) es h = taken-regions fs (set_all inode_cmp es (file_taken f ∷ []))
+    (set_file-all es f.inode (record { last = f.last; regions = regions_taken f.regions }) h
+    (set_all-sorted {X = ValueRow} nat_cmp_total [] (map value_taken f.regions) tt))
 
 pub taken-sorted : (x : ImageRows) → IsSortedDraft (taken x)
 taken-sorted x = record {

@@ -54,11 +54,12 @@ pub record AreFilesSorted (es : Entries) : Type 0 where
 module _ {K X : Type 0} (R : K → K → Ordering) (P : X → Type 0) where
   pub all-insert : (es : List (K × X)) (k : K) (v : X) → AllByRecursion (λ e. P e.1) es → P v → AllByRecursion (λ e. P e.1) (insert_entry R es k v)
   all-insert [] k v h p = (p, tt)
-  all-insert (e ∷ es) k v h p = elim (R k e.0) as (λ r. AllByRecursion (λ e. P e.1) (match_ordering r ((k, v) ∷ e ∷ es) ((e.0, v) ∷ es) (e ∷ insert_entry R es k v))) [
-    | Less ↦ (p, h)
-    | Equal ↦ (p, h.1)
-    | Greater ↦ (h.0, all-insert es k v h.1 p)
-  ]
+  all-insert (e ∷ es) k v h p = elim (R k e.0) as (λ r. AllByRecursion (λ e. P e.1)
+      (match_ordering r ((k, v) ∷ e ∷ es) ((e.0, v) ∷ es) (e ∷ insert_entry R es k v))) [
+        | Less ↦ (p, h)
+        | Equal ↦ (p, h.1)
+        | Greater ↦ (h.0, all-insert es k v h.1 p)
+      ]
 
   pub all-remove : (es : List (K × X)) (k : K) → AllByRecursion (λ e. P e.1) es → AllByRecursion (λ e. P e.1) (remove_entry (is_at (R k)) es)
   all-remove [] k h = tt
@@ -134,7 +135,8 @@ find-files_set q (c ∷ cs) es h g =
         → file_latest (find inode_cmp q (map last_change cs)) (cond b (file_latest (Some c.last) (find inode_cmp c.inode es)) (find inode_cmp q es))
         ≡ file_latest (cond b (Some c.last) (find inode_cmp q (map last_change cs))) (find inode_cmp q es)
     one true t =
-        ap (λ n. file_latest n (file_latest (Some c.last) (find inode_cmp c.inode es))) (behind_none inode_total q c.inode (map last_change cs) (tied_is _ t) (first _ _ g))
+        ap (λ n. file_latest n (file_latest (Some c.last) (find inode_cmp c.inode es)))
+        (behind_none inode_total q c.inode (map last_change cs) (tied_is _ t) (first _ _ g))
         ∙ ap (λ i. file_latest (Some c.last) (find inode_cmp i es)) (sym (tied_inode q c.inode t))
     one false t = refl
 
@@ -187,7 +189,8 @@ first_named c cs = ap (λ b. cond b (Some c.value) (named cs c.inode c.number)) 
 later_named : (c : RegionChangeRow) (cs : List RegionChangeRow) → T (is_sorted place_cmp (map value_change (c ∷ cs)))
     → (i : InodeId) (r : ℕ) (o : Option ValueRow) → named cs i r ≡ Some o → named (c ∷ cs) i r ≡ Some o
 later_named c cs g i r o e = elim (cases_Bool (eq_by_cmp place_cmp (i, r) (c.inode, c.number))) [
-  | inl t ↦ (let bad : None ≡ Some o = sym (behind_none place_total (i, r) (c.inode, c.number) (map value_change cs) (tied_is _ t) (first _ _ g)) ∙ e in absurd (cc))
+  | inl t ↦ (let bad : None ≡ Some o = sym (behind_none place_total (i, r) (c.inode, c.number) (map value_change cs) (tied_is _ t) (first _ _ g))
+      ∙ e in absurd (cc))
   | inr t ↦ ap (λ b. cond b (Some c.value) (named cs i r)) t ∙ e
 ]
 
@@ -195,15 +198,23 @@ module _ (c : RegionChangeRow) (cs : List RegionChangeRow) (es : Entries) (g : T
   -- nothing comes of a region that is gone with its file
   skipped : find inode_cmp c.inode es ≡ None → c.value ≡ None → (made : Entries) → AreRegionsSet cs es made → AreRegionsSet (c ∷ cs) es made
   skipped none gone made rest = record {
-    is = ap (λ o. region_set_in o es c >>= λ m. regions_set m cs) (sym (find-lookup inode_cmp c.inode es) ∙ none) ∙ ap (λ v. nowhere es v >>= λ m. regions_set m cs) gone ∙ rest.is;
+    is = ap (λ o. region_set_in o es c >>= λ m. regions_set m cs) (sym (find-lookup inode_cmp c.inode es) ∙ none)
+        ∙ ap (λ v. nowhere es v >>= λ m. regions_set m cs) gone ∙ rest.is;
     sorted = rest.sorted;
     there = λ i f e.
         let later = rest.there i f e in
         let off : eq_by_cmp inode_cmp i c.inode ≡ false = elim (cases_Bool (eq_by_cmp inode_cmp i c.inode)) [
           | inl t ↦ (let bad : Some f ≡ None = sym e ∙ ap (λ j. find inode_cmp j es) (tied_inode i c.inode t) ∙ none in absurd (cc))
           | inr t ↦ t
-        ] in
-        (later.0, later.1, record { last = later.2.last; regions = λ r. later.2.regions r ∙ ap (λ n. latest n (find nat_cmp r f.regions)) (sym (other c cs i r off)) });
+        ] in (
+          later.0,
+          later.1,
+          record {
+            last = later.2.last;
+            regions = λ r. later.2.regions r
+                ∙ ap (λ n. latest n (find nat_cmp r f.regions)) (sym (other c cs i r off));
+          },
+        );
     gone = rest.gone;
   }
 
@@ -230,14 +241,17 @@ module _ (c : RegionChangeRow) (cs : List RegionChangeRow) (es : Entries) (g : T
     still have i r v e = stays i (have i r v e)
 
     -- a region of the file that changed
-    region-of : (k : FileEntry) → IsFileAfter cs c.inode new k → (r : ℕ) → find nat_cmp r k.regions ≡ latest (named (c ∷ cs) c.inode r) (find nat_cmp r f.regions)
+    region-of : (k : FileEntry) → IsFileAfter cs c.inode new k → (r : ℕ)
+        → find nat_cmp r k.regions ≡ latest (named (c ∷ cs) c.inode r) (find nat_cmp r f.regions)
     region-of k after r =
-        after.regions r ∙ ap (latest (named cs c.inode r)) (find-set nat_cmp_total r c.number c.value f.regions (found-sorted es c.inode f h here)) ∙ one (is_eq (nat_cmp r c.number)) refl
+        after.regions r ∙ ap (latest (named cs c.inode r)) (find-set nat_cmp_total r c.number c.value f.regions (found-sorted es c.inode f h here))
+        ∙ one (is_eq (nat_cmp r c.number)) refl
       where
         place : eq_by_cmp place_cmp (c.inode, r) (c.inode, c.number) ≡ is_eq (nat_cmp r c.number)
         place = ap (λ o. is_eq (ordering_then o (nat_cmp r c.number))) (inode_itself c.inode)
 
-        one : (b : Bool) → is_eq (nat_cmp r c.number) ≡ b → latest (named cs c.inode r) (cond b c.value (find nat_cmp r f.regions)) ≡ latest (named (c ∷ cs) c.inode r) (find nat_cmp r f.regions)
+        one : (b : Bool) → is_eq (nat_cmp r c.number) ≡ b → latest (named cs c.inode r) (cond b c.value (find nat_cmp r f.regions))
+            ≡ latest (named (c ∷ cs) c.inode r) (find nat_cmp r f.regions)
         one true t =
             ap (λ n. latest n c.value) (behind_none place_total (c.inode, r) (c.inode, c.number) (map value_change cs) (tied_is _ (place ∙ t)) (first _ _ g))
             ∙ sym (ap (λ b. latest (cond b (Some c.value) (named cs c.inode r)) (find nat_cmp r f.regions)) (place ∙ t))
@@ -250,16 +264,28 @@ module _ (c : RegionChangeRow) (cs : List RegionChangeRow) (es : Entries) (g : T
       there = λ i k e. elim (cases_Bool (eq_by_cmp inode_cmp i c.inode)) [
         | inl t ↦ (
             let same = tied_inode i c.inode t in
-            let later = rest.there c.inode new (find-made c.inode ∙ ap (λ b. cond b (Some new) (find inode_cmp c.inode es)) (subst (λ j. eq_by_cmp inode_cmp j c.inode ≡ true) same t)) in
+            let later = rest.there c.inode new (find-made c.inode
+            ∙ ap (λ b. cond b (Some new) (find inode_cmp c.inode es)) (subst (λ j. eq_by_cmp inode_cmp j c.inode ≡ true) same t)) in
             let it : k ≡ f = (let is : Some k ≡ Some f = sym e ∙ ap (λ j. find inode_cmp j es) same ∙ here in cc) in (
               later.0,
               ap (λ j. find inode_cmp j after) same ∙ later.1,
               subst (λ (w : FileEntry). IsFileAfter (c ∷ cs) i w later.0) (sym it)
-                  (record { last = later.2.last; regions = λ r. subst (λ j. find nat_cmp r later.0.regions ≡ latest (named (c ∷ cs) j r) (find nat_cmp r f.regions)) (sym same) (region-of later.0 later.2 r) }),
+                  (record {
+                    last = later.2.last;
+                    regions = λ r. subst
+                        (λ j. find nat_cmp r later.0.regions ≡ latest (named (c ∷ cs) j r) (find nat_cmp r f.regions)) (sym same) (region-of later.0 later.2 r);
+                  }),
             ))
         | inr t ↦ (
-            let later = rest.there i k (find-made i ∙ ap (λ b. cond b (Some new) (find inode_cmp i es)) t ∙ e) in
-            (later.0, later.1, record { last = later.2.last; regions = λ r. later.2.regions r ∙ ap (λ n. latest n (find nat_cmp r k.regions)) (sym (other c cs i r t)) }))
+            let later = rest.there i k (find-made i ∙ ap (λ b. cond b (Some new) (find inode_cmp i es)) t ∙ e) in (
+              later.0,
+              later.1,
+              record {
+                last = later.2.last;
+                regions = λ r. later.2.regions r
+                    ∙ ap (λ n. latest n (find nat_cmp r k.regions)) (sym (other c cs i r t));
+              },
+            ))
       ];
       gone = λ i e. elim (cases_Bool (eq_by_cmp inode_cmp i c.inode)) [
         | inl t ↦ (let bad : None ≡ Some f = sym e ∙ ap (λ j. find inode_cmp j es) (tied_inode i c.inode t) ∙ here in absurd (cc))
@@ -268,7 +294,8 @@ module _ (c : RegionChangeRow) (cs : List RegionChangeRow) (es : Entries) (g : T
     }
 
 -- regions are set where each that is given has its file
-pub regions_are_set : (cs : List RegionChangeRow) (es : Entries) → AreFilesSorted es → T (is_sorted place_cmp (map value_change cs)) → HaveFiles cs es → (made : Entries) × AreRegionsSet cs es made
+pub regions_are_set : (cs : List RegionChangeRow) (es : Entries) → AreFilesSorted es → T (is_sorted place_cmp (map value_change cs)) → HaveFiles cs es
+    → (made : Entries) × AreRegionsSet cs es made
 regions_are_set [] es h g have = (
   es,
   record {
@@ -304,9 +331,11 @@ regions_set-sorted (c ∷ cs) es after h e = by (λ next in-order is. regions_se
   where
     by : ((next : Entries) → AreFilesSorted next → regions_set next cs ≡ Some after → AreFilesSorted after)
         → (o : Option FileEntry) → file_found es c.inode ≡ o → (v : Option ValueRow) → c.value ≡ v → AreFilesSorted after
-    by go None none None v = go es h (sym (ap (λ o. region_set_in o es c >>= λ m. regions_set m cs) none ∙ ap (λ w. nowhere es w >>= λ m. regions_set m cs) v) ∙ e)
+    by go None none None v = go es h (sym (ap (λ o. region_set_in o es c >>= λ m. regions_set m cs) none
+        ∙ ap (λ w. nowhere es w >>= λ m. regions_set m cs) v) ∙ e)
     by go None none (Some w) v =
-        (let bad : None ≡ Some after = sym (ap (λ o. region_set_in o es c >>= λ m. regions_set m cs) none ∙ ap (λ w. nowhere es w >>= λ m. regions_set m cs) v) ∙ e in absurd (cc))
+        (let bad : None ≡ Some after = sym (ap (λ o. region_set_in o es c >>= λ m. regions_set m cs) none ∙ ap (λ w. nowhere es w >>= λ m. regions_set m cs) v)
+        ∙ e in absurd (cc))
     by go (Some f) here v is =
         let found : find inode_cmp c.inode es ≡ Some f = find-lookup inode_cmp c.inode es ∙ here in
         let next : AreFilesSorted (put_back inode_cmp es c.inode (with_region f c.number c.value)) =

@@ -8,7 +8,8 @@ use Rattle.wtf_path.specs.Grammar.{IsPath}
 use Rattle.wtf_values.specs.declared.value.Node.{Node}
 use Rattle.wtf_values.specs.declared.value.Node.TheVariants.{Folder, File}
 use Rattle.wtf_overlay.specs.Reading.{◌>>=◌, number_at}
-use Rattle.wtf_spillfmt.proofs.Codecs.{Codec, IsBytes, IsBytes-rest, Takes, IsMade, some_is, bind_some, passed, codec_then, codec_as, codec_form, codec_only, counted_codec, codec16, codec32, codec64}
+use Rattle.wtf_spillfmt.proofs.Codecs.{Codec, IsBytes, IsBytes-rest, Takes, IsMade, some_is, bind_some, passed, codec_then, codec_as, codec_form, codec_only}
+use Rattle.wtf_spillfmt.proofs.Codecs.{counted_codec, codec16, codec32, codec64}
 use Rattle.wtf_imagefmt.specs.Rows.{ValueRow}
 use Rattle.wtf_imagefmt.specs.Texts.{inode_text, node_text, name_text}
 use Rattle.wtf_imagefmt.specs.Shapes.{ascends, IsInode}
@@ -18,8 +19,10 @@ use Rattle.wtf_changes.specs.declared.records.PathChange.{PathChange}
 use Rattle.wtf_changes.specs.declared.records.FileChange.{FileChange}
 use Rattle.wtf_changes.specs.Rows.{RegionChangeRow, ChangeRows}
 use Rattle.wtf_changes.specs.Texts.{stands_text, path_text, paths_text, last_text, file_text, files_text, held_text, region_text, regions_text, changes_text}
-use Rattle.wtf_changes.specs.Shapes.{path_before, file_before, region_before, IsStanding, IsLast, IsValueHeld, IsPathRow, IsFileRow, IsRegionRow, ArePaths, AreFiles, AreRegions, AreChanges}
-use Rattle.wtf_changes.specs.Reading.{stands_at, make_path, path_at, last_at, make_file, file_at, held_at, make_region, region_change_at, path_changes_at, files_at, regions_at, make_changes, changes_at, changes_of}
+use Rattle.wtf_changes.specs.Shapes.{path_before, file_before, region_before, IsStanding, IsLast, IsValueHeld, IsPathRow, IsFileRow, IsRegionRow, ArePaths}
+use Rattle.wtf_changes.specs.Shapes.{AreFiles, AreRegions, AreChanges}
+use Rattle.wtf_changes.specs.Reading.{stands_at, make_path, path_at, last_at, make_file, file_at, held_at, make_region, region_change_at, path_changes_at}
+use Rattle.wtf_changes.specs.Reading.{files_at, regions_at, make_changes, changes_at, changes_of}
 
 -- ---- paths
 
@@ -27,14 +30,16 @@ stands_takes : (bytes : List ℕ) (x : Option Node × List ℕ) → IsBytes byte
 unfolding stands_at stands_text node_text
 stands_takes [] x fits e = absurd cc
 stands_takes (zero ∷ bytes) x fits e =
-    subst (λ (y : Option Node × List ℕ). Takes (0 ∷ bytes) (stands_text y.0) y.1 × IsStanding y.0) (some_is (Some Folder, bytes) x e) (record { parts = refl; rest_fits = IsBytes-rest 0 bytes fits }, tt)
+    subst (λ (y : Option Node × List ℕ). Takes (0 ∷ bytes) (stands_text y.0) y.1 × IsStanding y.0) (some_is (Some Folder, bytes) x e)
+    (record { parts = refl; rest_fits = IsBytes-rest 0 bytes fits }, tt)
 stands_takes (suc zero ∷ bytes) x fits e =
     let b = bind_some (inode_at bytes) (λ s. Some (Some (File s.0), s.1)) x e in
     let t = inode_codec.takes bytes b.0 (IsBytes-rest 1 bytes fits) b.1 in
     subst (λ (y : Option Node × List ℕ). Takes (1 ∷ bytes) (stands_text y.0) y.1 × IsStanding y.0) (some_is (Some (File b.0.0), b.0.1) x b.2)
     (record { parts = ap (λ (w : List ℕ). 1 ∷ w) t.0.parts; rest_fits = t.0.rest_fits }, t.1)
 stands_takes (suc (suc zero) ∷ bytes) x fits e =
-    subst (λ (y : Option Node × List ℕ). Takes (2 ∷ bytes) (stands_text y.0) y.1 × IsStanding y.0) (some_is (None, bytes) x e) (record { parts = refl; rest_fits = IsBytes-rest 2 bytes fits }, tt)
+    subst (λ (y : Option Node × List ℕ). Takes (2 ∷ bytes) (stands_text y.0) y.1 × IsStanding y.0) (some_is (None, bytes) x e)
+    (record { parts = refl; rest_fits = IsBytes-rest 2 bytes fits }, tt)
 stands_takes (suc (suc (suc n)) ∷ bytes) x fits e = absurd cc
 
 stands_again : (o : Option Node) (rest : List ℕ) → IsStanding o → stands_at (stands_text o ++ rest) ≡ Some (o, rest)
@@ -46,7 +51,8 @@ stands_again (Some (File i)) rest form = ap (λ o. o >>= λ s. Some (Some (File 
 stands_codec : Codec stands_text IsStanding stands_at
 stands_codec = record { takes = stands_takes; again = stands_again }
 
-path_made : IsMade (λ (x : List ℕ × Option Node). name_text x.0 ++ stands_text x.1) (λ x. IsPath x.0 × IsStanding x.1) path_text IsPathRow make_path (λ r. (r.path, r.node))
+path_made : IsMade (λ (x : List ℕ × Option Node). name_text x.0 ++ stands_text x.1) (λ x. IsPath x.0 × IsStanding x.1) path_text IsPathRow make_path
+    (λ r. (r.path, r.node))
 unfolding path_text
 path_made = record {
   text = λ x form. refl;
@@ -72,7 +78,8 @@ last_takes : (bytes : List ℕ) (x : Option ℕ × List ℕ) → IsBytes bytes �
 unfolding last_at last_text
 last_takes [] x fits e = absurd cc
 last_takes (zero ∷ bytes) x fits e =
-    subst (λ (y : Option ℕ × List ℕ). Takes (0 ∷ bytes) (last_text y.0) y.1 × IsLast y.0) (some_is (None, bytes) x e) (record { parts = refl; rest_fits = IsBytes-rest 0 bytes fits }, tt)
+    subst (λ (y : Option ℕ × List ℕ). Takes (0 ∷ bytes) (last_text y.0) y.1 × IsLast y.0) (some_is (None, bytes) x e)
+    (record { parts = refl; rest_fits = IsBytes-rest 0 bytes fits }, tt)
 last_takes (suc zero ∷ bytes) x fits e =
     let b = bind_some (number_at w16 bytes) (λ s. Some (Some s.0, s.1)) x e in
     let t = codec16.takes bytes b.0 (IsBytes-rest 1 bytes fits) b.1 in
@@ -88,7 +95,8 @@ last_again (Some n) rest form = ap (λ o. o >>= λ s. Some (Some s.0, s.1)) (cod
 last_codec : Codec last_text IsLast last_at
 last_codec = record { takes = last_takes; again = last_again }
 
-file_made : IsMade (λ (x : InodeId × Option ℕ). inode_text x.0 ++ last_text x.1) (λ x. IsInode x.0 × IsLast x.1) file_text IsFileRow make_file (λ r. (r.inode, r.last))
+file_made : IsMade (λ (x : InodeId × Option ℕ). inode_text x.0 ++ last_text x.1) (λ x. IsInode x.0 × IsLast x.1) file_text IsFileRow make_file
+    (λ r. (r.inode, r.last))
 unfolding file_text
 file_made = record {
   text = λ x form. refl;
@@ -114,7 +122,8 @@ held_takes : (bytes : List ℕ) (x : Option ValueRow × List ℕ) → IsBytes by
 unfolding held_at held_text
 held_takes [] x fits e = absurd cc
 held_takes (zero ∷ bytes) x fits e =
-    subst (λ (y : Option ValueRow × List ℕ). Takes (0 ∷ bytes) (held_text y.0) y.1 × IsValueHeld y.0) (some_is (None, bytes) x e) (record { parts = refl; rest_fits = IsBytes-rest 0 bytes fits }, tt)
+    subst (λ (y : Option ValueRow × List ℕ). Takes (0 ∷ bytes) (held_text y.0) y.1 × IsValueHeld y.0) (some_is (None, bytes) x e)
+    (record { parts = refl; rest_fits = IsBytes-rest 0 bytes fits }, tt)
 held_takes (suc zero ∷ bytes) x fits e =
     let b = bind_some (value_at bytes) (λ s. Some (Some s.0, s.1)) x e in
     let t = value_codec.takes bytes b.0 (IsBytes-rest 1 bytes fits) b.1 in
@@ -130,7 +139,8 @@ held_again (Some v) rest form = ap (λ o. o >>= λ s. Some (Some s.0, s.1)) (val
 held_codec : Codec held_text IsValueHeld held_at
 held_codec = record { takes = held_takes; again = held_again }
 
-region_made : IsMade (λ (x : InodeId × (ℕ × Option ValueRow)). inode_text x.0 ++ (to_be_bytes w16 x.1.0 ++ held_text x.1.1)) (λ x. IsInode x.0 × ((x.1.0 < 2 ^ 16) × IsValueHeld x.1.1))
+region_made : IsMade (λ (x : InodeId × (ℕ × Option ValueRow)). inode_text x.0 ++ (to_be_bytes w16 x.1.0 ++ held_text x.1.1))
+    (λ x. IsInode x.0 × ((x.1.0 < 2 ^ 16) × IsValueHeld x.1.1))
     region_text IsRegionRow make_region (λ r. (r.inode, (r.number, r.value)))
 unfolding region_text
 region_made = record {
@@ -167,7 +177,8 @@ changes_made = record {
 
 changes_codec : Codec changes_text AreChanges changes_at
 unfolding changes_at
-changes_codec = codec_as changes_made (codec_then codec64 (λ n f. codec_then codec64 (λ t g. codec_then paths_codec (λ ps h. codec_then files_codec (λ fs i. regions_codec)))))
+changes_codec = codec_as changes_made (codec_then codec64
+    (λ n f. codec_then codec64 (λ t g. codec_then paths_codec (λ ps h. codec_then files_codec (λ fs i. regions_codec)))))
 
 -- what is read has these bytes for its text
 pub changes_takes : (bytes : List ℕ) (x : ChangeRows) → IsBytes bytes → changes_of bytes ≡ Some x → AreChanges x × (bytes ≡ changes_text x)

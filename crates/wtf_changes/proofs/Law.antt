@@ -1,5 +1,6 @@
 -- An image with the changes of a store since its number is the image at the number of the store.
-use Rattle.std.proofs.Common.{◌≡◌, ◌≢◌, ℕ, zero, suc, ◌+◌, ◌<◌, ◌≤◌, ◌⊎◌, Bool, true, false, cond, nat_lt, T, List, [], ◌∷◌, ◌++◌, map, Option, None, Some, IsSome, refl, sym, ap, subst, ◌∙◌, arith, inl, inr}
+use Rattle.std.proofs.Common.{◌≡◌, ◌≢◌, ℕ, zero, suc, ◌+◌, ◌<◌, ◌≤◌, ◌⊎◌, Bool, true, false, cond, nat_lt, T, List, [], ◌∷◌, ◌++◌, map, Option, None, Some}
+use Rattle.std.proofs.Common.{IsSome, refl, sym, ap, subst, ◌∙◌, arith, inl, inr}
 use Rattle.std.proofs.lemmas.Bool.{cases_Bool, cases_lt, both_ways, ltb-false, ltb-true}
 use Rattle.std.proofs.lemmas.Bool.Decides.{nat_tests}
 use Rattle.std.proofs.lemmas.Cmp.{nat_cmp_total}
@@ -27,18 +28,20 @@ use Rattle.wtf_imagefmt.specs.declared.records.Header.{Header}
 use Rattle.wtf_imagefmt.specs.declared.records.PathRecord.{PathRecord}
 use Rattle.wtf_imagefmt.specs.Rows.{ValueRow, RegionRow, FileRow, ImageRows}
 use Rattle.wtf_imagefmt.specs.Shapes.{ascends, path_before, file_before, region_before, IsFileRow}
-use Rattle.wtf_imagefmt.specs.Lookups.{Plain, NodeIs, NamesAre, LastIs, RegionIs, plain, node_at, place_cmp, path_entry}
+use Rattle.wtf_imagefmt.specs.Lookups.{Plain, NodeIs, NamesAre, LastIs, RegionIs, CountIs, plain, node_at, place_cmp, path_entry}
 use Rattle.wtf_imagefmt.specs.Shown.{Shown, shown_at, shown}
 use Rattle.wtf_imagefmt.specs.Savable.{IsLastValue}
 use Rattle.wtf_imagefmt.specs.Saving.{node_now, last_now, region_now, with_one, regions_below, region_in, file_with, file_at, header_of}
 use Rattle.wtf_imagefmt.proofs.Gathered.{region_numbered}
 use Rattle.wtf_changes.specs.Rows.{ChangeRows}
 use Rattle.wtf_changes.specs.Shapes.{path_before as path_change_before, file_before as file_change_before, region_before as region_change_before, AreChanges}
-use Rattle.wtf_changes.specs.Drafts.{set_all, FileEntry, DraftRows, value_of, value_taken, node_taken, regions_taken, file_taken, node_change, with_last, files_set, header_with, path_written, region_written, file_written, written, applied}
+use Rattle.wtf_changes.specs.Drafts.{set_all, FileEntry, DraftRows, value_of, value_taken, node_taken, regions_taken, file_taken, node_change, with_last}
+use Rattle.wtf_changes.specs.Drafts.{files_set, header_with, path_written, region_written, file_written, written, applied}
 use Rattle.wtf_changes.specs.Since.{last_change, value_change, value_now, due, AreChangesOf}
 use Rattle.wtf_changes.specs.Law.{IsPictureOf, AreImagesSince}
 use Rattle.wtf_changes.proofs.Sets.{tied_is, latest, find-set_all, set_all-sorted, rows-sorted}
-use Rattle.wtf_changes.proofs.Files.{Entries, inode_total, place_total, found-sorted, file_latest, files_set-sorted, find-files_set, HaveFiles, IsFileAfter, AreRegionsSet, regions_are_set}
+use Rattle.wtf_changes.proofs.Files.{Entries, inode_total, place_total, found-sorted, file_latest, files_set-sorted, find-files_set, HaveFiles, IsFileAfter}
+use Rattle.wtf_changes.proofs.Files.{AreRegionsSet, regions_are_set}
 use Rattle.wtf_changes.proofs.Drafts.{taken-sorted}
 
 -- ---- orders
@@ -60,18 +63,22 @@ same_path = slice_cmp-IsAntisymmetric nat_cmp-IsAntisymmetric
 -- ---- what is found of rows that were taken
 
 module _ {A K X : Type 0} (R : K → K → Ordering) (key : A → K) (value : A → X) where
-  find-some : (q : K) (xs : List A) → find R q (map (λ a. (key a, Some (value a))) xs) ≡ option_map (λ (x : X). Some x) (find R q (map (λ a. (key a, value a)) xs))
+  find-some : (q : K) (xs : List A) → find R q (map (λ a. (key a, Some (value a))) xs)
+      ≡ option_map (λ (x : X). Some x) (find R q (map (λ a. (key a, value a)) xs))
   find-some q [] = refl
   find-some q (x ∷ xs) = elim (eq_by_cmp R q (key x)) as
-      (λ b. cond b (Some (Some (value x))) (find R q (map (λ a. (key a, Some (value a))) xs)) ≡ option_map (λ (x : X). Some x) (cond b (Some (value x)) (find R q (map (λ a. (key a, value a)) xs)))) [
+      (λ b. cond b (Some (Some (value x))) (find R q (map (λ a. (key a, Some (value a))) xs)) ≡ option_map (λ (x : X). Some x)
+      (cond b (Some (value x)) (find R q (map (λ a. (key a, value a)) xs)))) [
         | true ↦ refl
         | false ↦ find-some q xs
       ]
 
-  find-of : {Y : Type 0} (f : X → Y) (q : K) (xs : List A) → find R q (map (λ a. (key a, f (value a))) xs) ≡ option_map f (find R q (map (λ a. (key a, value a)) xs))
+  find-of : {Y : Type 0} (f : X → Y) (q : K) (xs : List A)
+      → find R q (map (λ a. (key a, f (value a))) xs) ≡ option_map f (find R q (map (λ a. (key a, value a)) xs))
   find-of f q [] = refl
   find-of f q (x ∷ xs) = elim (eq_by_cmp R q (key x)) as
-      (λ b. cond b (Some (f (value x))) (find R q (map (λ a. (key a, f (value a))) xs)) ≡ option_map f (cond b (Some (value x)) (find R q (map (λ a. (key a, value a)) xs)))) [
+      (λ b. cond b (Some (f (value x))) (find R q (map (λ a. (key a, f (value a))) xs)) ≡ option_map f
+      (cond b (Some (value x)) (find R q (map (λ a. (key a, value a)) xs)))) [
         | true ↦ refl
         | false ↦ find-of f q xs
       ]
@@ -100,6 +107,7 @@ value-row : (r : ℕ) (s : Option Plain) → option_map value_of (region_now r s
 value-row r None = refl
 value-row r (Some (NodeIs n)) = refl
 value-row r (Some (NamesAre names)) = refl
+value-row r (Some (CountIs n)) = refl
 value-row r (Some (LastIs n)) = refl
 value-row r (Some (RegionIs end base entries)) = refl
 
@@ -133,7 +141,8 @@ module _ (m : Shown) (i : InodeId) where
   found_below zero r lt = absurd (omega arith)
   found_below (suc n) r lt = one_more n (region_in m i n) refl (past n n (omega arith)) r ∙ by (λ less. found_below n r less) (is_eq (nat_cmp r n)) refl
     where
-      by : (r < n → find nat_cmp r (below n) ≡ value_now (m (Region i r))) → (b : Bool) → is_eq (nat_cmp r n) ≡ b → cond b (option_map value_of (region_in m i n)) (find nat_cmp r (below n)) ≡ value_now (m (Region i r))
+      by : (r < n → find nat_cmp r (below n) ≡ value_now (m (Region i r))) → (b : Bool) → is_eq (nat_cmp r n) ≡ b
+          → cond b (option_map value_of (region_in m i n)) (find nat_cmp r (below n)) ≡ value_now (m (Region i r))
       by go true t = value-row n (m (Region i n)) ∙ ap (λ k. value_now (m (Region i k))) (sym (same_number r n (tied_is _ t)))
       by go false t =
           let off : r ≢ n = λ same. both_ways _ t (subst (λ k. is_eq (nat_cmp r k) ≡ true) same (ap is_eq (tied_itself nat_cmp_total r))) in
@@ -153,6 +162,7 @@ no_last : (o : Option Plain) → IsLastValue o → last_now o ≡ None → o ≡
 no_last None kind e = refl
 no_last (Some (NodeIs n)) kind e = absurd kind
 no_last (Some (NamesAre names)) kind e = absurd kind
+no_last (Some (CountIs n)) kind e = absurd kind
 no_last (Some (LastIs n)) kind e = absurd (cc)
 no_last (Some (RegionIs end base entries)) kind e = absurd kind
 
@@ -160,6 +170,7 @@ a_last : (o : Option Plain) (n : ℕ) → last_now o ≡ Some n → o ≡ Some (
 a_last None n e = absurd (cc)
 a_last (Some (NodeIs k)) n e = absurd (cc)
 a_last (Some (NamesAre names)) n e = absurd (cc)
+a_last (Some (CountIs c)) n e = absurd (cc)
 a_last (Some (LastIs k)) n e = ap (λ j. Some (LastIs j)) (some_is k n e)
 a_last (Some (RegionIs end base entries)) n e = absurd (cc)
 
@@ -172,7 +183,8 @@ each-row (g ∷ fs) i f h e = elim (cases_Bool (eq_by_cmp inode_cmp i g.inode)) 
 
 module _ (m : Shown) (s : Settings) (number next_tx : ℕ) (x : ImageRows) (pic : IsPictureOf m s number next_tx x) where
   -- a file's region, by its value
-  pub region_found : (i : InodeId) (n r : ℕ) → last_now (m (Inode i)) ≡ Some n → find nat_cmp r (map pair (file_with m i n).regions) ≡ value_now (m (Region i r))
+  pub region_found : (i : InodeId) (n r : ℕ) → last_now (m (Inode i)) ≡ Some n
+      → find nat_cmp r (map pair (file_with m i n).regions) ≡ value_now (m (Region i r))
   region_found i n r e = elim (cases_lt r (n + 1)) [
     | inl lt ↦ found_below m i (n + 1) r lt
     | inr le ↦ past m i (n + 1) r le ∙ sym (ap value_now (pic.savable.above i n r (a_last (m (Inode i)) n e) (omega arith)))
@@ -199,7 +211,8 @@ due_latest : {X : Type 0} (b : Bool) (old now : Option X) → (b ≡ false → o
 due_latest true old now same = refl
 due_latest false old now same = same refl
 
-file_latest-last : (d : Option (Option ℕ)) (f : Option FileEntry) → option_map (λ (f : FileEntry). f.last) (file_latest d f) ≡ latest d (option_map (λ (f : FileEntry). f.last) f)
+file_latest-last : (d : Option (Option ℕ)) (f : Option FileEntry)
+    → option_map (λ (f : FileEntry). f.last) (file_latest d f) ≡ latest d (option_map (λ (f : FileEntry). f.last) f)
 file_latest-last None f = refl
 file_latest-last (Some None) f = refl
 file_latest-last (Some (Some n)) None = refl
@@ -233,7 +246,8 @@ module _ (kv : Store Key Value) (since : ℕ) (s : Settings) (next_tx : ℕ) (x 
 
   -- ---- paths
 
-  path_found : (p : List ℕ) → find (slice_cmp nat_cmp) p (set_all (slice_cmp nat_cmp) (set_all (slice_cmp nat_cmp) [] (map node_taken x.paths)) (map node_change ch.paths)) ≡ node_now (m1 (Path p))
+  path_found : (p : List ℕ) → find (slice_cmp nat_cmp) p
+      (set_all (slice_cmp nat_cmp) (set_all (slice_cmp nat_cmp) [] (map node_taken x.paths)) (map node_change ch.paths)) ≡ node_now (m1 (Path p))
   path_found p =
       find-set_all nat_list_cmp_total p (map node_change ch.paths) (set_all (slice_cmp nat_cmp) [] (map node_taken x.paths)) (taken-sorted x).paths
       (rows-sorted (slice_cmp nat_cmp) nat_list_cmp_total node_change path_change_before (λ a b lt. less_of _ lt) ch.paths form.paths.ascend)
@@ -258,7 +272,8 @@ module _ (kv : Store Key Value) (since : ℕ) (s : Settings) (next_tx : ℕ) (x 
 
   taken_found : (i : InodeId) → find inode_cmp i files_taken ≡ option_map taken_entry (file_at x.files i)
   taken_found i =
-      find-set_all inode_total i (map file_taken x.files) [] tt (rows-sorted inode_cmp inode_total file_taken file_before (λ a b lt. less_of _ lt) x.files h.old.shape.files.ascend)
+      find-set_all inode_total i (map file_taken x.files) [] tt
+      (rows-sorted inode_cmp inode_total file_taken file_before (λ a b lt. less_of _ lt) x.files h.old.shape.files.ascend)
       ∙ ap (λ o. latest o None) (find-some inode_cmp (λ (f : FileRow). f.inode) taken_entry i x.files)
       ∙ latest-some (find inode_cmp i (map (λ f. (f.inode, taken_entry f)) x.files))
       ∙ find-of inode_cmp (λ (f : FileRow). f.inode) (λ (f : FileRow). f) taken_entry i x.files
@@ -272,7 +287,8 @@ module _ (kv : Store Key Value) (since : ℕ) (s : Settings) (next_tx : ℕ) (x 
 
   then_found : (i : InodeId) → find inode_cmp i files_then ≡ file_latest (due kv since (Inode i) (last_now (m1 (Inode i)))) (find inode_cmp i files_taken)
   then_found i =
-      find-files_set i ch.files files_taken (taken-sorted x).files (rows-sorted inode_cmp inode_total last_change file_change_before (λ a b lt. less_of _ lt) ch.files form.files.ascend)
+      find-files_set i ch.files files_taken (taken-sorted x).files
+      (rows-sorted inode_cmp inode_total last_change file_change_before (λ a b lt. less_of _ lt) ch.files form.files.ascend)
       ∙ ap (λ o. file_latest o (find inode_cmp i files_taken)) (are.files i)
 
   then_last : (i : InodeId) → option_map (λ (f : FileEntry). f.last) (find inode_cmp i files_then) ≡ last_now (m1 (Inode i))
@@ -291,7 +307,8 @@ module _ (kv : Store Key Value) (since : ℕ) (s : Settings) (next_tx : ℕ) (x 
           (let bad : None ≡ Some g = sym (ap (option_map taken_entry) (file_gone m0 s since h.before x h.old i none)) ∙ sym (taken_found i) ∙ e in absurd (cc))
       by (Some n) is =
           let it : taken_entry (file_with m0 i n) ≡ g =
-          some_is (taken_entry (file_with m0 i n)) g (sym (ap (option_map taken_entry) (file_is m0 s since h.before x h.old i n is)) ∙ sym (taken_found i) ∙ e) in
+          some_is (taken_entry (file_with m0 i n)) g (sym (ap (option_map taken_entry) (file_is m0 s since h.before x h.old i n is))
+          ∙ sym (taken_found i) ∙ e) in
           ap (λ (k : FileEntry). find nat_cmp r k.regions) (sym it)
           ∙ find-regions_taken r (file_with m0 i n).regions (regions_rise m0 s since h.before x h.old i n is)
           ∙ region_found m0 s since h.before x h.old i n r is
@@ -300,7 +317,8 @@ module _ (kv : Store Key Value) (since : ℕ) (s : Settings) (next_tx : ℕ) (x 
   then_region i f r e =
       elim (file_latest-regions (due kv since (Inode i) (last_now (m1 (Inode i)))) (find inode_cmp i files_taken) f (sym (then_found i) ∙ e)) [
         | inl old ↦ ap (find nat_cmp r) old.2 ∙ taken_region i old.0 r old.1
-        | inr new ↦ ap (find nat_cmp r) new.1 ∙ sym (no_region m0 s since h.before x h.old i r (sym (taken_last i) ∙ ap (option_map (λ (f : FileEntry). f.last)) new.0))
+        | inr new ↦ ap (find nat_cmp r) new.1 ∙ sym (no_region m0 s since h.before x h.old i r
+            (sym (taken_last i) ∙ ap (option_map (λ (f : FileEntry). f.last)) new.0))
       ]
 
   -- ---- regions
@@ -310,7 +328,8 @@ module _ (kv : Store Key Value) (since : ℕ) (s : Settings) (next_tx : ℕ) (x 
     where
       by : (o : Option FileEntry) → find inode_cmp i files_then ≡ o → IsSome o
       by None none =
-          absurd (not_some (m1 (Inode i)) (no_last (m1 (Inode i)) (h.new.savable.lasts i) (sym (then_last i) ∙ ap (option_map (λ (f : FileEntry). f.last)) none)) there)
+          absurd (not_some (m1 (Inode i)) (no_last (m1 (Inode i)) (h.new.savable.lasts i)
+          (sym (then_last i) ∙ ap (option_map (λ (f : FileEntry). f.last)) none)) there)
       by (Some f) e = refl
 
   some_value : (o : Option Plain) (v : ValueRow) → value_now o ≡ Some v → IsSome o
@@ -322,8 +341,9 @@ module _ (kv : Store Key Value) (since : ℕ) (s : Settings) (next_tx : ℕ) (x 
   due_value false now v e = absurd (cc)
 
   have : HaveFiles ch.regions files_then
-  have i r v e =
-      has_file i (h.new.savable.owned i r (some_value (m1 (Region i r)) v (due_value (is_due (Region i r)) (value_now (m1 (Region i r))) v (sym (are.regions i r) ∙ e))))
+  have i r v e = has_file i
+      (h.new.savable.owned i r (some_value (m1 (Region i r)) v
+      (due_value (is_due (Region i r)) (value_now (m1 (Region i r))) v (sym (are.regions i r) ∙ e))))
 
   set_regions : (made : Entries) × AreRegionsSet ch.regions files_then made
   set_regions =
@@ -336,9 +356,11 @@ module _ (kv : Store Key Value) (since : ℕ) (s : Settings) (next_tx : ℕ) (x 
   abbrev done : AreRegionsSet ch.regions files_then made
   done = set_regions.1
 
-  made_region : (i : InodeId) (f g : FileEntry) (r : ℕ) → find inode_cmp i files_then ≡ Some f → IsFileAfter ch.regions i f g → find nat_cmp r g.regions ≡ value_now (m1 (Region i r))
+  made_region : (i : InodeId) (f g : FileEntry) (r : ℕ) → find inode_cmp i files_then ≡ Some f → IsFileAfter ch.regions i f g
+      → find nat_cmp r g.regions ≡ value_now (m1 (Region i r))
   made_region i f g r e after =
-      after.regions r ∙ ap (λ o. latest o (find nat_cmp r f.regions)) (are.regions i r) ∙ ap (latest (due kv since (Region i r) (value_now (m1 (Region i r))))) (then_region i f r e)
+      after.regions r ∙ ap (λ o. latest o (find nat_cmp r f.regions)) (are.regions i r)
+      ∙ ap (latest (due kv since (Region i r) (value_now (m1 (Region i r))))) (then_region i f r e)
       ∙ due_latest (is_due (Region i r)) (value_now (m0 (Region i r))) (value_now (m1 (Region i r))) (λ e. ap value_now (stays (Region i r) e))
 
   -- what each file is
@@ -347,7 +369,8 @@ module _ (kv : Store Key Value) (since : ℕ) (s : Settings) (next_tx : ℕ) (x 
     where
       by : (o : Option FileEntry) → find inode_cmp i files_then ≡ o → find inode_cmp i made ≡ option_map entry_of (file_at z.files i)
       by None none =
-          done.gone i none ∙ sym (ap (option_map entry_of) (file_gone m1 s kv.number next_tx z h.new i (sym (then_last i) ∙ ap (option_map (λ (f : FileEntry). f.last)) none)))
+          done.gone i none ∙ sym (ap (option_map entry_of) (file_gone m1 s kv.number next_tx z h.new i
+          (sym (then_last i) ∙ ap (option_map (λ (f : FileEntry). f.last)) none)))
       by (Some f) e =
           let after = done.there i f e in
           let g = after.0 in
@@ -355,7 +378,8 @@ module _ (kv : Store Key Value) (since : ℕ) (s : Settings) (next_tx : ℕ) (x 
           let row : FileRow = file_with m1 i f.last in
           let sorted : T (is_sorted nat_cmp g.regions) = found-sorted made i g done.sorted after.1 in
           let regions : g.regions ≡ map pair row.regions =
-          same_entries nat_cmp nat_cmp_total same_number g.regions (map pair row.regions) sorted (pairs-sorted row.regions (regions_rise m1 s kv.number next_tx z h.new i f.last last))
+          same_entries nat_cmp nat_cmp_total same_number g.regions (map pair row.regions) sorted
+          (pairs-sorted row.regions (regions_rise m1 s kv.number next_tx z h.new i f.last last))
           (λ r. made_region i f g r e after.2 ∙ sym (region_found m1 s kv.number next_tx z h.new i f.last r last)) in
           let it : g ≡ entry_of row = λ k. record { last = after.2.last k; regions = regions k } in
           after.1 ∙ ap (λ (w : FileEntry). Some w) it ∙ sym (ap (option_map entry_of) (file_is m1 s kv.number next_tx z h.new i f.last last))
@@ -409,5 +433,5 @@ module _ (kv : Store Key Value) (since : ℕ) (s : Settings) (next_tx : ℕ) (x 
 
   pub image_again : applied x ch ≡ Some z
   image_again =
-      let same : written (drawn made) ≡ z = λ k. record { header = header_is k; paths = paths_are k; files = files_are k } in
+      let same : written (drawn made) ≡ z = λ k. record { version = sym h.second k; header = header_is k; paths = paths_are k; files = files_are k } in
       ap (λ o. option_map written (o >>= λ files. Some (drawn files))) done.is ∙ ap (λ (w : ImageRows). Some w) same

@@ -2,7 +2,7 @@
 use Rattle.std.proofs.Common.{◌≡◌, ℕ, List, Some, None, sym, ap, ◌∙◌}
 use Rattle.wtf_spillfmt.specs.declared.error.ListError.{ListError}
 use Rattle.wtf_spillfmt.specs.declared.error.ListError.TheVariants as unread
-use Rattle.wtf_spillfmt.specs.Gives.{IsNoneOr}
+use Rattle.wtf_spillfmt.specs.Parses.{IsNoneOr}
 use Rattle.wtf_spillfmt.proofs.Codecs.{IsBytes}
 use Rattle.wtf_changes.specs.declared.records.Changes.{Changes}
 use Rattle.wtf_changes.specs.Rows.{ChangeRows, change_rows}

@@ -6,7 +6,8 @@ use Rattle.std.specs.Ordering.{is_lt, is_eq, eq_by_cmp, match_ordering}
 use Rattle.std.specs.Cmp.{IsTotalOrder, alike_right, eq_by_cmp_equiv}
 use Rattle.std.specs.Map.{lookup, remove_entry}
 use Rattle.std.specs.BTreeMap.{is_at, insert_entry}
-use Rattle.std.specs.FinMap.Entries.{find, put, by_order, where_key, is_sorted, below_all, is_sorted-put, is_sorted-where_key, find-put, find-where_key, find_tied}
+use Rattle.std.specs.FinMap.Entries.{find, put, by_order, where_key, is_sorted, below_all, is_sorted-put, is_sorted-where_key, find-put, find-where_key}
+use Rattle.std.specs.FinMap.Entries.{find_tied}
 use Rattle.wtf_imagefmt.specs.Shapes.{ascends, ascends_from}
 use Rattle.wtf_changes.specs.Drafts.{set, set_all, put_back}
 
@@ -119,15 +120,18 @@ module _ {K X : Type 0} {R : K → K → Ordering} (o : IsTotalOrder R) where
   set_all-sorted es (c ∷ cs) h = set_all-sorted (set R es c.0 c.1) cs (set-sorted es c.0 c.1 h)
 
 -- what ties with the first key of a list in order is not found behind it
-pub behind_none : {K X : Type 0} {R : K → K → Ordering} → IsTotalOrder R → (q k : K) (es : List (K × X)) → R q k ≡ Equal → T (below_all R k es) → find R q es ≡ None
+pub behind_none : {K X : Type 0} {R : K → K → Ordering} → IsTotalOrder R → (q k : K) (es : List (K × X)) → R q k ≡ Equal → T (below_all R k es)
+    → find R q es ≡ None
 behind_none {R = R} o q k es t h = sym (find_tied R o q k t es) ∙ none_above R k es h
 
 module _ {K X : Type 0} {R : K → K → Ordering} (o : IsTotalOrder R) where
   -- what a key has, where keys are set that are named once
-  pub find-set_all : (q : K) (cs : List (K × Option X)) (es : List (K × X)) → T (is_sorted R es) → T (is_sorted R cs) → find R q (set_all R es cs) ≡ latest (find R q cs) (find R q es)
+  pub find-set_all : (q : K) (cs : List (K × Option X)) (es : List (K × X)) → T (is_sorted R es) → T (is_sorted R cs)
+      → find R q (set_all R es cs) ≡ latest (find R q cs) (find R q es)
   find-set_all q [] es h g = refl
   find-set_all q (c ∷ cs) es h g =
-      find-set_all q cs (set R es c.0 c.1) (set-sorted o es c.0 c.1 h) (second _ _ g) ∙ ap (latest (find R q cs)) (find-set o q c.0 c.1 es h) ∙ one (eq_by_cmp R q c.0) refl
+      find-set_all q cs (set R es c.0 c.1) (set-sorted o es c.0 c.1 h) (second _ _ g) ∙ ap (latest (find R q cs)) (find-set o q c.0 c.1 es h)
+      ∙ one (eq_by_cmp R q c.0) refl
     where
       one : (b : Bool) → eq_by_cmp R q c.0 ≡ b → latest (find R q cs) (cond b c.1 (find R q es)) ≡ latest (cond b (Some c.1) (find R q cs)) (find R q es)
       one true t = ap (λ n. latest n c.1) (behind_none o q c.0 cs (tied_is _ t) (first _ _ g))
@@ -136,30 +140,35 @@ module _ {K X : Type 0} {R : K → K → Ordering} (o : IsTotalOrder R) where
 -- ---- rows that rise
 
 module _ {A K X : Type 0} (R : K → K → Ordering) (o : IsTotalOrder R) (entry : A → K × X) (before : A → A → Bool) where
-  below-from : ((a b : A) → before a b ≡ true → R (entry a).0 (entry b).0 ≡ Less) → (k : K) (y : A) (ys : List A) → R k (entry y).0 ≡ Less → ascends_from before y ys ≡ true
+  below-from : ((a b : A) → before a b ≡ true → R (entry a).0 (entry b).0 ≡ Less) → (k : K) (y : A) (ys : List A) → R k (entry y).0 ≡ Less
+      → ascends_from before y ys ≡ true
       → T (below_all R k (map entry (y ∷ ys)))
   below-from is k y [] lt h = both _ _ (holds _ (ap is_lt lt)) tt
   below-from is k y (z ∷ zs) lt h =
       let next = is y z (left_of _ _ h) in
       both _ _ (holds _ (ap is_lt lt)) (below-from is k z zs (o.trans k (entry y).0 (entry z).0 lt next) (right_of _ _ h))
 
-  sorted-from : ((a b : A) → before a b ≡ true → R (entry a).0 (entry b).0 ≡ Less) → (x : A) (xs : List A) → ascends_from before x xs ≡ true → T (is_sorted R (map entry (x ∷ xs)))
+  sorted-from : ((a b : A) → before a b ≡ true → R (entry a).0 (entry b).0 ≡ Less) → (x : A) (xs : List A) → ascends_from before x xs ≡ true
+      → T (is_sorted R (map entry (x ∷ xs)))
   sorted-from is x [] h = tt
   sorted-from is x (y ∷ ys) h =
       both _ _ (below-from is (entry x).0 y ys (is x y (left_of _ _ h)) (right_of _ _ h)) (sorted-from is y ys (right_of _ _ h))
 
   -- the entries of rows that rise are in order
-  pub rows-sorted : ((a b : A) → before a b ≡ true → R (entry a).0 (entry b).0 ≡ Less) → (xs : List A) → ascends before xs ≡ true → T (is_sorted R (map entry xs))
+  pub rows-sorted : ((a b : A) → before a b ≡ true → R (entry a).0 (entry b).0 ≡ Less) → (xs : List A) → ascends before xs ≡ true
+      → T (is_sorted R (map entry xs))
   rows-sorted is [] h = tt
   rows-sorted is (x ∷ xs) h = sorted-from is x xs h
 
 module _ {A K X : Type 0} (R : K → K → Ordering) (make : K × X → A) (before : A → A → Bool) where
-  rise-from : ((a b : K × X) → T (is_lt (R a.0 b.0)) → before (make a) (make b) ≡ true) → (e : K × X) (es : List (K × X)) → T (is_sorted R (e ∷ es)) → ascends_from before (make e) (map make es) ≡ true
+  rise-from : ((a b : K × X) → T (is_lt (R a.0 b.0)) → before (make a) (make b) ≡ true) → (e : K × X) (es : List (K × X)) → T (is_sorted R (e ∷ es))
+      → ascends_from before (make e) (map make es) ≡ true
   rise-from is e [] h = refl
   rise-from is e (d ∷ ds) h =
       ap (λ b. b && ascends_from before (make d) (map make ds)) (is e d (first _ _ (first _ _ h))) ∙ rise-from is d ds (second _ _ h)
 
   -- and the rows of entries in order rise
-  pub rows-rise : ((a b : K × X) → T (is_lt (R a.0 b.0)) → before (make a) (make b) ≡ true) → (es : List (K × X)) → T (is_sorted R es) → ascends before (map make es) ≡ true
+  pub rows-rise : ((a b : K × X) → T (is_lt (R a.0 b.0)) → before (make a) (make b) ≡ true) → (es : List (K × X)) → T (is_sorted R es)
+      → ascends before (map make es) ≡ true
   rows-rise is [] h = refl
   rows-rise is (e ∷ es) h = rise-from is e es h

@@ -1,5 +1,6 @@
 -- A walk over the keys of a store that changed, by which they are listed.
-use Rattle.std.proofs.Common.{◌≡◌, ◌≢◌, ℕ, ◌<◌, Bool, true, false, cond, T, List, [], ◌∷◌, ◌++◌, map, Option, None, Some, is_some, refl, sym, ap, subst, ◌∙◌, ⊎_elim}
+use Rattle.std.proofs.Common.{◌≡◌, ◌≢◌, ℕ, ◌<◌, Bool, true, false, cond, T, List, [], ◌∷◌, ◌++◌, map, Option, None, Some, is_some, refl, sym, ap, subst, ◌∙◌}
+use Rattle.std.proofs.Common.{⊎_elim}
 use Rattle.std.proofs.lemmas.Bool.{cases_Bool, both_ways}
 use Rattle.std.proofs.lemmas.List.{map-append}
 use Rattle.std.specs.declared.cmp.Ordering.{Ordering}
@@ -15,7 +16,7 @@ use Rattle.wtf_kv.specs.Order.{is_past, is_before, is_changed, IsNextChanged, le
 use Rattle.wtf_kv.proofs.KeyLaws.{between_changed, left_changed}
 use Rattle.wtf_values.specs.Keys.{key_cmp, inode_cmp, same_key, same_inode}
 use Rattle.wtf_values.specs.declared.key.Key.{Key}
-use Rattle.wtf_values.specs.declared.key.Key.TheVariants.{Path, Dir, Inode, Region}
+use Rattle.wtf_values.specs.declared.key.Key.TheVariants.{Path, Dir, Inode, Region, Links}
 use Rattle.wtf_values.specs.declared.value.Node.{Node}
 use Rattle.wtf_values.specs.declared.value.Value.{Value}
 use Rattle.wtf_values.proofs.KeyLaws.{key_total}
@@ -55,7 +56,8 @@ module _ {K X : Type 0} (R : K → K → Ordering) where
     behind : (e : K × X) (es : List (K × X)) (x : K) → T (below_all R e.0 es) → is_some (find R x es) ≡ true → is_some (find R x (e ∷ es)) ≡ true
     behind e es x h some = elim (eq_by_cmp R x e.0) as (λ b. is_some (cond b (Some e.1) (find R x es)) ≡ true) [ true ↦ refl | false ↦ some ]
 
-    sorted-push : (es : List (K × X)) (k : K) (v : X) → ((x : K) → is_some (find R x es) ≡ true → R x k ≡ Less) → T (is_sorted R es) → T (is_sorted R (es ++ (k, v) ∷ []))
+    sorted-push : (es : List (K × X)) (k : K) (v : X) → ((x : K) → is_some (find R x es) ≡ true → R x k ≡ Less) → T (is_sorted R es)
+        → T (is_sorted R (es ++ (k, v) ∷ []))
     sorted-push [] k v up h = tt
     sorted-push (e ∷ es) k v up h =
         both _ _ (below-push e.0 k v es (up e.0 (ap (λ o. is_some (cond (is_eq o) (Some e.1) (find R e.0 es))) (tied_itself total e.0))) (first _ _ h))
@@ -70,7 +72,13 @@ pub record Kind (K : Type 0) : Type 0 where
   pub alike : (a b : K) → key_cmp (key a) (key b) ≡ order a b
 
 abbrev paths : Kind (List ℕ)
-paths = record { order = slice_cmp nat_cmp; total = nat_list_cmp_total; exact = slice_cmp-IsAntisymmetric nat_cmp-IsAntisymmetric; key = Path; alike = λ a b. refl }
+paths = record {
+  order = slice_cmp nat_cmp;
+  total = nat_list_cmp_total;
+  exact = slice_cmp-IsAntisymmetric nat_cmp-IsAntisymmetric;
+  key = Path;
+  alike = λ a b. refl;
+}
 
 abbrev files : Kind InodeId
 files = record { order = inode_cmp; total = inode_total; exact = same_inode; key = Inode; alike = λ a b. refl }
@@ -89,13 +97,15 @@ abbrev with_due : {K X : Type 0} → List (K × X) → K → Option X → List (
 with_due es k None = es
 with_due es k (Some v) = es ++ (k, v) ∷ []
 
-module _ (kv : Store Key Value) (since : ℕ) {K X : Type 0} (kind : Kind K) (now : K → Option X) (unseen : (k : K) → is_changed key_cmp kv since (kind.key k) ≡ false → now k ≡ None) where
+module _ (kv : Store Key Value) (since : ℕ) {K X : Type 0} (kind : Kind K) (now : K → Option X)
+    (unseen : (k : K) → is_changed key_cmp kv since (kind.key k) ≡ false → now k ≡ None) where
   -- what is due of the keys that lie before one
   pub record Upto (at : Option Key) (es : List (K × X)) : Type 0 where
     pub sorted : T (is_sorted kind.order es)
     pub each : (k : K) → find kind.order k es ≡ cond (is_before key_cmp at (kind.key k)) (now k) None
 
-  skipped : (after next : Option Key) (k : K) → IsNextChanged key_cmp kv since after next → is_past key_cmp after (kind.key k) ≡ true → cond (is_before key_cmp next (kind.key k)) (now k) None ≡ None
+  skipped : (after next : Option Key) (k : K) → IsNextChanged key_cmp kv since after next → is_past key_cmp after (kind.key k) ≡ true
+      → cond (is_before key_cmp next (kind.key k)) (now k) None ≡ None
   skipped after next k is past = ⊎_elim
       (λ behind. ap (λ t. cond t (now k) None) behind ∙ unseen k (between_changed key_cmp key_total same_key kv since after next (kind.key k) is past behind))
       (λ off. ap (λ t. cond t (now k) None) off)
@@ -117,11 +127,13 @@ module _ (kv : Store Key Value) (since : ℕ) {K X : Type 0} (kind : Kind K) (no
   by_place : (q : Key) (next : Option Key) → IsNextChanged key_cmp kv since (Some q) next → (k : K) (o : Ordering) → key_cmp (kind.key k) q ≡ o
       → cond (is_lt o) (now k) (cond (is_eq o) (now k) None) ≡ cond (is_before key_cmp next (kind.key k)) (now k) None
   by_place q next is k Less e = sym (ap (λ t. cond t (now k) None) (before_next q (kind.key k) next is e))
-  by_place q next is k Equal e = sym (ap (λ t. cond t (now k) None) (subst (λ p. is_before key_cmp next p ≡ true) (sym (same_key (kind.key k) q e)) (at_next q next is)))
+  by_place q next is k Equal e = sym (ap (λ t. cond t (now k) None)
+      (subst (λ p. is_before key_cmp next p ≡ true) (sym (same_key (kind.key k) q e)) (at_next q next is)))
   by_place q next is k Greater e = sym (skipped (Some q) next k is (ap is_lt (key_total.antisymm q (kind.key k) ∙ ap ordering_reverse e)))
 
   -- a key of another kind
-  pub passes : (q : Key) (next : Option Key) (es : List (K × X)) → ((k : K) → key_cmp (kind.key k) q ≢ Equal) → IsNextChanged key_cmp kv since (Some q) next → Upto (Some q) es → Upto next es
+  pub passes : (q : Key) (next : Option Key) (es : List (K × X)) → ((k : K) → key_cmp (kind.key k) q ≢ Equal) → IsNextChanged key_cmp kv since (Some q) next
+      → Upto (Some q) es → Upto next es
   passes q next es apart is so_far = record {
     sorted = so_far.sorted;
     each = λ k. so_far.each k ∙ off (key_cmp (kind.key k) q) (apart k) (now k) ∙ by_place q next is k (key_cmp (kind.key k) q) refl;
@@ -212,11 +224,13 @@ module _ (kv : Store Key Value) (since : ℕ) where
     pub regions_are : Upto kv since regions region_due no_region at (map value_change x.regions)
     pub at_changed : IsAt at
 
-  pub walk_begins : (x : ChangeRows) (next : Option Key) → x.paths ≡ [] → x.files ≡ [] → x.regions ≡ [] → IsNextChanged key_cmp kv since None next → Walked next x
+  pub walk_begins : (x : ChangeRows) (next : Option Key) → x.paths ≡ [] → x.files ≡ [] → x.regions ≡ []
+      → IsNextChanged key_cmp kv since None next → Walked next x
   walk_begins x next p f r is = record {
     paths_are = subst (λ l. Upto kv since paths path_due no_path next (map node_change l)) (sym p) (begins kv since paths path_due no_path next is);
     files_are = subst (λ l. Upto kv since files file_due no_file next (map last_change l)) (sym f) (begins kv since files file_due no_file next is);
-    regions_are = subst (λ l. Upto kv since regions region_due no_region next (map value_change l)) (sym r) (begins kv since regions region_due no_region next is);
+    regions_are = subst (λ l. Upto kv since regions region_due no_region next (map value_change l)) (sym r)
+        (begins kv since regions region_due no_region next is);
     at_changed = is_at None next is;
   }
 
@@ -231,7 +245,8 @@ module _ (kv : Store Key Value) (since : ℕ) where
   file_more x i false n = refl
 
   region_more : (x : ChangeRows) (i : InodeId) (r : ℕ) (b : Bool) (v : Option ValueRow)
-      → map value_change (cond b (x.regions ++ record { inode = i; number = r; value = v } ∷ []) x.regions) ≡ with_due (map value_change x.regions) (i, r) (cond b (Some v) None)
+      → map value_change (cond b (x.regions ++ record { inode = i; number = r; value = v } ∷ []) x.regions)
+      ≡ with_due (map value_change x.regions) (i, r) (cond b (Some v) None)
   region_more x i r true v = map-append value_change x.regions (record { inode = i; number = r; value = v } ∷ [])
   region_more x i r false v = refl
 
@@ -261,14 +276,18 @@ module _ (kv : Store Key Value) (since : ℕ) where
       more = key_added q x
 
       stay_paths : ((p : List ℕ) → key_cmp (Path p) q ≢ Equal) → more.paths ≡ x.paths → Upto kv since paths path_due no_path next (map node_change more.paths)
-      stay_paths apart same = subst (λ l. Upto kv since paths path_due no_path next (map node_change l)) (sym same) (passes kv since paths path_due no_path q next (map node_change x.paths) apart is walked.paths_are)
+      stay_paths apart same = subst (λ l. Upto kv since paths path_due no_path next (map node_change l)) (sym same)
+          (passes kv since paths path_due no_path q next (map node_change x.paths) apart is walked.paths_are)
 
       stay_files : ((i : InodeId) → key_cmp (Inode i) q ≢ Equal) → more.files ≡ x.files → Upto kv since files file_due no_file next (map last_change more.files)
-      stay_files apart same = subst (λ l. Upto kv since files file_due no_file next (map last_change l)) (sym same) (passes kv since files file_due no_file q next (map last_change x.files) apart is walked.files_are)
+      stay_files apart same = subst (λ l. Upto kv since files file_due no_file next (map last_change l)) (sym same)
+          (passes kv since files file_due no_file q next (map last_change x.files) apart is walked.files_are)
 
-      stay_regions : ((a : InodeId × ℕ) → key_cmp (Region a.0 a.1) q ≢ Equal) → more.regions ≡ x.regions → Upto kv since regions region_due no_region next (map value_change more.regions)
+      stay_regions : ((a : InodeId × ℕ) → key_cmp (Region a.0 a.1) q ≢ Equal) → more.regions ≡ x.regions
+          → Upto kv since regions region_due no_region next (map value_change more.regions)
       stay_regions apart same =
-          subst (λ l. Upto kv since regions region_due no_region next (map value_change l)) (sym same) (passes kv since regions region_due no_region q next (map value_change x.regions) apart is walked.regions_are)
+          subst (λ l. Upto kv since regions region_due no_region next (map value_change l)) (sym same)
+          (passes kv since regions region_due no_region q next (map value_change x.regions) apart is walked.regions_are)
 
       there : IsAt next
       there = is_at (Some q) next is
@@ -276,10 +295,13 @@ module _ (kv : Store Key Value) (since : ℕ) where
     pub walk_goes_on : (q : Key) → Walked (Some q) x → IsNextChanged key_cmp kv since (Some q) next → Walked next (key_added q x)
     walk_goes_on (Path p) walked is = record {
       paths_are = subst (λ l. Upto kv since paths path_due no_path next l)
-          (sym (ap (map node_change) (paths_by (is_due (Path p)) (with_key x (Path p) (shown kv (Path p)))) ∙ path_more x p (is_due (Path p)) (node_now (shown kv (Path p)))))
+          (sym (ap (map node_change) (paths_by (is_due (Path p)) (with_key x (Path p) (shown kv (Path p))))
+          ∙ path_more x p (is_due (Path p)) (node_now (shown kv (Path p)))))
           (adds kv since paths path_due no_path p (map node_change x.paths) walked.paths_are next is);
-      files_are = stay_files (Path p) walked is (λ i e. absurd (cc)) (files_by (is_due (Path p)) (with_key x (Path p) (shown kv (Path p))) ∙ same_by (is_due (Path p)) x.files);
-      regions_are = stay_regions (Path p) walked is (λ a e. absurd (cc)) (regions_by (is_due (Path p)) (with_key x (Path p) (shown kv (Path p))) ∙ same_by (is_due (Path p)) x.regions);
+      files_are = stay_files (Path p) walked is (λ i e. absurd (cc))
+          (files_by (is_due (Path p)) (with_key x (Path p) (shown kv (Path p))) ∙ same_by (is_due (Path p)) x.files);
+      regions_are = stay_regions (Path p) walked is (λ a e. absurd (cc))
+          (regions_by (is_due (Path p)) (with_key x (Path p) (shown kv (Path p))) ∙ same_by (is_due (Path p)) x.regions);
       at_changed = there (Path p) walked is;
     }
     walk_goes_on (Dir d) walked is = record {
@@ -288,19 +310,31 @@ module _ (kv : Store Key Value) (since : ℕ) where
       regions_are = stay_regions (Dir d) walked is (λ a e. absurd (cc)) (ap (λ (y : ChangeRows). y.regions) (same_by (is_due (Dir d)) x));
       at_changed = there (Dir d) walked is;
     }
+    walk_goes_on (Links k) walked is = record {
+      paths_are = stay_paths (Links k) walked is (λ p e. absurd (cc)) (ap (λ (y : ChangeRows). y.paths) (same_by (is_due (Links k)) x));
+      files_are = stay_files (Links k) walked is (λ i e. absurd (cc)) (ap (λ (y : ChangeRows). y.files) (same_by (is_due (Links k)) x));
+      regions_are = stay_regions (Links k) walked is (λ a e. absurd (cc)) (ap (λ (y : ChangeRows). y.regions) (same_by (is_due (Links k)) x));
+      at_changed = there (Links k) walked is;
+    }
     walk_goes_on (Inode i) walked is = record {
-      paths_are = stay_paths (Inode i) walked is (λ p e. absurd (cc)) (paths_by (is_due (Inode i)) (with_key x (Inode i) (shown kv (Inode i))) ∙ same_by (is_due (Inode i)) x.paths);
+      paths_are = stay_paths (Inode i) walked is (λ p e. absurd (cc))
+          (paths_by (is_due (Inode i)) (with_key x (Inode i) (shown kv (Inode i))) ∙ same_by (is_due (Inode i)) x.paths);
       files_are = subst (λ l. Upto kv since files file_due no_file next l)
-          (sym (ap (map last_change) (files_by (is_due (Inode i)) (with_key x (Inode i) (shown kv (Inode i)))) ∙ file_more x i (is_due (Inode i)) (last_now (shown kv (Inode i)))))
+          (sym (ap (map last_change) (files_by (is_due (Inode i)) (with_key x (Inode i) (shown kv (Inode i))))
+          ∙ file_more x i (is_due (Inode i)) (last_now (shown kv (Inode i)))))
           (adds kv since files file_due no_file i (map last_change x.files) walked.files_are next is);
-      regions_are = stay_regions (Inode i) walked is (λ a e. absurd (cc)) (regions_by (is_due (Inode i)) (with_key x (Inode i) (shown kv (Inode i))) ∙ same_by (is_due (Inode i)) x.regions);
+      regions_are = stay_regions (Inode i) walked is (λ a e. absurd (cc))
+          (regions_by (is_due (Inode i)) (with_key x (Inode i) (shown kv (Inode i))) ∙ same_by (is_due (Inode i)) x.regions);
       at_changed = there (Inode i) walked is;
     }
     walk_goes_on (Region i r) walked is = record {
-      paths_are = stay_paths (Region i r) walked is (λ p e. absurd (cc)) (paths_by (is_due (Region i r)) (with_key x (Region i r) (shown kv (Region i r))) ∙ same_by (is_due (Region i r)) x.paths);
-      files_are = stay_files (Region i r) walked is (λ j e. absurd (cc)) (files_by (is_due (Region i r)) (with_key x (Region i r) (shown kv (Region i r))) ∙ same_by (is_due (Region i r)) x.files);
+      paths_are = stay_paths (Region i r) walked is (λ p e. absurd (cc))
+          (paths_by (is_due (Region i r)) (with_key x (Region i r) (shown kv (Region i r))) ∙ same_by (is_due (Region i r)) x.paths);
+      files_are = stay_files (Region i r) walked is (λ j e. absurd (cc))
+          (files_by (is_due (Region i r)) (with_key x (Region i r) (shown kv (Region i r))) ∙ same_by (is_due (Region i r)) x.files);
       regions_are = subst (λ l. Upto kv since regions region_due no_region next l)
-          (sym (ap (map value_change) (regions_by (is_due (Region i r)) (with_key x (Region i r) (shown kv (Region i r)))) ∙ region_more x i r (is_due (Region i r)) (value_now (shown kv (Region i r)))))
+          (sym (ap (map value_change) (regions_by (is_due (Region i r)) (with_key x (Region i r) (shown kv (Region i r))))
+          ∙ region_more x i r (is_due (Region i r)) (value_now (shown kv (Region i r)))))
           (adds kv since regions region_due no_region (i, r) (map value_change x.regions) walked.regions_are next is);
       at_changed = there (Region i r) walked is;
     }
@@ -310,6 +344,7 @@ module _ (kv : Store Key Value) (since : ℕ) where
   with_numbers : (x : ChangeRows) (q : Key) (now : Option Plain) → ((with_key x q now).installs ≡ x.installs) × ((with_key x q now).next_tx ≡ x.next_tx)
   with_numbers x (Path p) now = (refl, refl)
   with_numbers x (Dir d) now = (refl, refl)
+  with_numbers x (Links i) now = (refl, refl)
   with_numbers x (Inode i) now = (refl, refl)
   with_numbers x (Region i r) now = (refl, refl)
 
@@ -320,7 +355,8 @@ module _ (kv : Store Key Value) (since : ℕ) where
 
   module _ (next_tx : ℕ) (at : Option Key) (x : ChangeRows) where
     pub walk_starts : x ≡ none_yet kv.number next_tx → IsNextChanged key_cmp kv since None at → WalkedWith next_tx at x
-    walk_starts e is = subst (WalkedWith next_tx at) (sym e) (record { walked = walk_begins (none_yet kv.number next_tx) at refl refl refl is; installs = refl; next = refl })
+    walk_starts e is = subst (WalkedWith next_tx at) (sym e)
+        (record { walked = walk_begins (none_yet kv.number next_tx) at refl refl refl is; installs = refl; next = refl })
 
     module _ (q : Key) (here : at ≡ Some q) (so_far : WalkedWith next_tx at x) (next : Option Key) (is : IsNextChanged key_cmp kv since (Some q) next) where
       changed : is_due q ≡ true
@@ -376,9 +412,12 @@ module _ (kv : Store Key Value) (since : ℕ) where
 
   pub walk_rises : (x : ChangeRows) → Walked None x → AreRising x
   walk_rises x walked = record {
-    paths = subst (λ l. ascends path_before l ≡ true) (paths_again x.paths) (rows-rise (slice_cmp nat_cmp) path_of path_before (λ a b lt. true_of _ lt) (map node_change x.paths) walked.paths_are.sorted);
-    files = subst (λ l. ascends file_before l ≡ true) (files_again x.files) (rows-rise inode_cmp file_of file_before (λ a b lt. true_of _ lt) (map last_change x.files) walked.files_are.sorted);
-    regions = subst (λ l. ascends region_before l ≡ true) (regions_again x.regions) (rows-rise place_cmp region_of region_before (λ a b lt. true_of _ lt) (map value_change x.regions) walked.regions_are.sorted);
+    paths = subst (λ l. ascends path_before l ≡ true) (paths_again x.paths)
+        (rows-rise (slice_cmp nat_cmp) path_of path_before (λ a b lt. true_of _ lt) (map node_change x.paths) walked.paths_are.sorted);
+    files = subst (λ l. ascends file_before l ≡ true) (files_again x.files)
+        (rows-rise inode_cmp file_of file_before (λ a b lt. true_of _ lt) (map last_change x.files) walked.files_are.sorted);
+    regions = subst (λ l. ascends region_before l ≡ true) (regions_again x.regions)
+        (rows-rise place_cmp region_of region_before (λ a b lt. true_of _ lt) (map value_change x.regions) walked.regions_are.sorted);
   }
 
   pub walk_stops : (next_tx : ℕ) (at : Option Key) (x : ChangeRows) → at ≡ None → WalkedWith next_tx at x → AreInOrder kv since next_tx x
@@ -387,7 +426,8 @@ module _ (kv : Store Key Value) (since : ℕ) where
       record { are = walk_ends next_tx x so_far.installs so_far.next walked; rise = walk_rises x walked }
 
   -- what was walked through and written
-  pub changes_told : (next_tx : ℕ) (x : ChangeRows) (bytes : List ℕ) → AreInOrder kv since next_tx x → bytes ≡ changes_text x → AreWide x → IsChangesOf kv since next_tx bytes
+  pub changes_told : (next_tx : ℕ) (x : ChangeRows) (bytes : List ℕ) → AreInOrder kv since next_tx x → bytes ≡ changes_text x → AreWide x
+      → IsChangesOf kv since next_tx bytes
   changes_told next_tx x bytes in_order text wide = record {
     rows = x;
     text = record {

@@ -10,6 +10,7 @@ use Rattle.wtf_base.specs.declared.ids.InodeId.{InodeId}
 use Rattle.wtf_overlay.specs.Reading.{◌>>=◌}
 use Rattle.wtf_values.specs.Keys.{inode_cmp}
 use Rattle.wtf_values.specs.declared.value.Node.{Node}
+use Rattle.wtf_imagefmt.specs.declared.records.Version.TheVariants.{Two}
 use Rattle.wtf_imagefmt.specs.declared.records.Header.{Header}
 use Rattle.wtf_imagefmt.specs.declared.records.PathRecord.{PathRecord}
 use Rattle.wtf_imagefmt.specs.Rows.{ValueRow, RegionRow, FileRow, ImageRows}
@@ -113,7 +114,7 @@ abbrev pub changed : DraftRows → ChangeRows → Option DraftRows
 changed d ch = regions_set (files_set d.files ch.files) ch.regions >>= λ files.
     Some (record { header = header_with d.header ch; paths = set_all (slice_cmp nat_cmp) d.paths (map node_change ch.paths); files = files })
 
--- ---- the rows that come of it
+-- ---- the rows that come of it: those of an image of the second version, whatever it was before
 
 abbrev pub path_written : List ℕ × Node → PathRecord
 path_written e = record { path = e.0; node = e.1 }
@@ -125,7 +126,7 @@ abbrev pub file_written : InodeId × FileEntry → FileRow
 file_written e = record { inode = e.0; last = e.1.last; regions = map region_written e.1.regions }
 
 abbrev pub written : DraftRows → ImageRows
-written d = record { header = d.header; paths = map path_written d.paths; files = map file_written d.files }
+written d = record { version = Two; header = d.header; paths = map path_written d.paths; files = map file_written d.files }
 
 -- an image with changes made in it
 abbrev pub applied : ImageRows → ChangeRows → Option ImageRows

@@ -4,6 +4,7 @@ use Rattle.wtf_base.specs.declared.settings.Settings.{Settings}
 use Rattle.wtf_kv.specs.Stores.{Store, is_pinned}
 use Rattle.wtf_values.specs.declared.key.Key.{Key}
 use Rattle.wtf_values.specs.declared.value.Value.{Value}
+use Rattle.wtf_imagefmt.specs.declared.records.Version.TheVariants.{Two}
 use Rattle.wtf_imagefmt.specs.Rows.{ImageRows}
 use Rattle.wtf_imagefmt.specs.Savable.{IsSavable}
 use Rattle.wtf_imagefmt.specs.Saving.{Says, header_of}
@@ -17,10 +18,11 @@ pub record IsPictureOf (m : Shown) (s : Settings) (number next_tx : ℕ) (x : Im
   pub says : Says m x
   pub header : x.header ≡ header_of s number next_tx
 
--- x is an image at a number that is pinned, and z one at the number of the store
+-- x is an image at a number that is pinned, and z one of the second version at the number of the store
 pub record AreImagesSince (kv : Store Key Value) (since : ℕ) (s : Settings) (next_tx : ℕ) (x z : ImageRows) : Type 0 where
   pub pinned : IsTrue (is_pinned kv since)
   pub upto : since ≤ kv.number
   pub before : ℕ
   pub old : IsPictureOf (shown_at kv since) s since before x
   pub new : IsPictureOf (shown kv) s kv.number next_tx z
+  pub second : z.version ≡ Two

@@ -10,7 +10,7 @@ use Rattle.wtf_values.specs.declared.key.Key.{Key}
 use Rattle.wtf_values.specs.declared.key.Key.TheVariants.{Path, Inode, Region}
 use Rattle.wtf_values.specs.declared.value.Node.{Node}
 use Rattle.wtf_values.specs.declared.value.Value.{Value}
-use Rattle.wtf_imagefmt.specs.Lookups.{Plain, NodeIs, NamesAre, LastIs, RegionIs, place_cmp}
+use Rattle.wtf_imagefmt.specs.Lookups.{Plain, NodeIs, NamesAre, LastIs, RegionIs, CountIs, place_cmp}
 use Rattle.wtf_imagefmt.specs.Rows.{ValueRow}
 use Rattle.wtf_imagefmt.specs.Saving.{node_now, last_now}
 use Rattle.wtf_imagefmt.specs.Shown.{shown}
@@ -41,6 +41,7 @@ abbrev pub value_now : Option Plain → Option ValueRow
 value_now None = None
 value_now (Some (NodeIs n)) = None
 value_now (Some (NamesAre names)) = None
+value_now (Some (CountIs n)) = None
 value_now (Some (LastIs n)) = None
 value_now (Some (RegionIs end base entries)) = Some (record { end = end; base = base; entries = entries })
 

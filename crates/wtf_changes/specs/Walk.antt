@@ -2,7 +2,7 @@
 use Rattle.std.specs.Prelude.{◌≡◌, ℕ, true, [], ◌∷◌, ◌++◌, Option}
 use Rattle.wtf_kv.specs.Stores.{Store}
 use Rattle.wtf_values.specs.declared.key.Key.{Key}
-use Rattle.wtf_values.specs.declared.key.Key.TheVariants.{Path, Dir, Inode, Region}
+use Rattle.wtf_values.specs.declared.key.Key.TheVariants.{Path, Dir, Inode, Region, Links}
 use Rattle.wtf_values.specs.declared.value.Value.{Value}
 use Rattle.wtf_imagefmt.specs.Lookups.{Plain}
 use Rattle.wtf_imagefmt.specs.Saving.{node_now, last_now}
@@ -11,11 +11,12 @@ use Rattle.wtf_changes.specs.Rows.{ChangeRows}
 use Rattle.wtf_changes.specs.Shapes.{path_before, file_before, region_before}
 use Rattle.wtf_changes.specs.Since.{value_now, AreChangesOf}
 
--- with what a key is now at the end; nothing of a directory
+-- with what a key is now at the end; nothing of a directory and of a number of paths
 abbrev pub with_key : ChangeRows → Key → Option Plain → ChangeRows
 with_key x (Path p) now = record x { paths = x.paths ++ record { path = p; node = node_now now } ∷ [] }
 with_key x (Dir d) now = x
 with_key x (Inode i) now = record x { files = x.files ++ record { inode = i; last = last_now now } ∷ [] }
+with_key x (Links i) now = x
 with_key x (Region i r) now = record x { regions = x.regions ++ record { inode = i; number = r; value = value_now now } ∷ [] }
 
 -- all rows ascend

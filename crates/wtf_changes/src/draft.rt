@@ -18,7 +18,7 @@ use std::alloc::Global;
 use std::collections::BTreeMap;
 use std::marker::Model;
 use wtf_base::{InodeId, OutOfMemory};
-use wtf_imagefmt::{FileRecord, Header, Image, PathRecord, RegionRecord};
+use wtf_imagefmt::{FileRecord, Header, Image, PathRecord, RegionRecord, Version};
 use wtf_path::Path;
 use wtf_values::{Node, RegionValue};
 
@@ -314,6 +314,7 @@ impl Draft {
         let paths = write_paths(alloc, &self.paths)?;
         let files = write_files(alloc, &self.files)?;
         Ok(Image {
+            version: Version::Two,
             header: self.header,
             paths,
             files,

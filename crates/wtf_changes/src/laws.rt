@@ -18,8 +18,8 @@ pub fn changes_are_apart()
         (x ≡ y) × (rest ≡ []) }
 {}
 
-/// The image of a store at a pinned number, with the changes since then made in it, is the image at the
-/// number of the store, where both can be saved.
+/// The image of a store at a pinned number, with the changes since then made in it, is the image of the
+/// second version at the number of the store, where both can be saved.
 pub fn changes_make_the_image()
     ensures { (kv : Store Key Value) (since : ℕ) (s : Settings) (next : ℕ) (x z : ImageRows)
         (ch : ChangeRows) → AreImagesSince kv since s next x z → AreChanges ch →

@@ -4,7 +4,7 @@
 
 ghost use Rattle.std.specs.Option.{option_map};
 ghost use Rattle.wtf_overlay.specs.Reading.{many_at};
-ghost use Rattle.wtf_spillfmt.specs.Gives.{Gives};
+ghost use Rattle.wtf_spillfmt.specs.Parses.{Parses};
 ghost use Rattle.wtf_imagefmt.specs.Rows.{value_row};
 ghost use Rattle.wtf_changes.specs.Rows.{region_row, region_rows, change_rows};
 ghost use Rattle.wtf_changes.specs.Reading.{stands_at, path_at, last_at, file_at, held_at, region_change_at, path_changes_at, files_at, regions_at, changes_of};
@@ -19,7 +19,7 @@ use wtf_values::{Node, RegionValue};
 /// What stands at a path: 0 for a directory, 1 and the inode for a file, 2 for nothing.
 #[tactic(auto, unfolding(crate::specs::Reading::stands_at))]
 fn stands_of(bytes: &[u8]) -> Result<(Option<Node>, &[u8]), ListError>
-    ensures { Gives (λ x. (x.0, x.1.now)) result (stands_at bytes.now) }
+    ensures { Parses (λ x. (x.0, x.1.now)) result (stands_at bytes.now) }
 {
     let (kind, rest) = u8_at(bytes)?;
     match kind {
@@ -36,7 +36,7 @@ fn stands_of(bytes: &[u8]) -> Result<(Option<Node>, &[u8]), ListError>
 /// A path, and what stands there.
 #[tactic(auto, unfolding(crate::specs::Reading::path_at))]
 fn path_of(alloc: Global, bytes: &[u8]) -> Result<(PathChange, &[u8]), ListError>
-    ensures { Gives (λ x. (x.0, x.1.now)) result (path_at bytes.now) }
+    ensures { Parses (λ x. (x.0, x.1.now)) result (path_at bytes.now) }
 {
     let (path, rest) = name_of(alloc, bytes)?;
     let (node, rest) = stands_of(rest)?;
@@ -49,7 +49,7 @@ fn some_paths_of(
     count: u32,
     bytes: &[u8],
 ) -> Result<(Vec<PathChange>, &[u8]), ListError>
-    ensures { Gives (λ x. (x.0.items, x.1.now)) result (many_at path_at count bytes.now) }
+    ensures { Parses (λ x. (x.0.items, x.1.now)) result (many_at path_at count bytes.now) }
 {
     let mut paths = Vec::new(alloc);
     let mut rest = bytes;
@@ -64,7 +64,7 @@ fn some_paths_of(
 /// The paths, which ascend, behind their number.
 #[tactic(auto, unfolding(crate::specs::Reading::path_changes_at))]
 fn paths_of(alloc: Global, bytes: &[u8]) -> Result<(Vec<PathChange>, &[u8]), ListError>
-    ensures { Gives (λ x. (x.0.items, x.1.now)) result (path_changes_at bytes.now) }
+    ensures { Parses (λ x. (x.0.items, x.1.now)) result (path_changes_at bytes.now) }
 {
     let (count, rest) = u32_at(bytes)?;
     let (paths, rest) = some_paths_of(alloc, count, rest)?;
@@ -77,7 +77,7 @@ fn paths_of(alloc: Global, bytes: &[u8]) -> Result<(Vec<PathChange>, &[u8]), Lis
 /// The last region of a file: 0 for a file that is gone, 1 and the number.
 #[tactic(auto, unfolding(crate::specs::Reading::last_at))]
 fn last_of(bytes: &[u8]) -> Result<(Option<u16>, &[u8]), ListError>
-    ensures { Gives (λ x. (x.0, x.1.now)) result (last_at bytes.now) }
+    ensures { Parses (λ x. (x.0, x.1.now)) result (last_at bytes.now) }
 {
     let (kind, rest) = u8_at(bytes)?;
     match kind {
@@ -93,7 +93,7 @@ fn last_of(bytes: &[u8]) -> Result<(Option<u16>, &[u8]), ListError>
 /// A file, and its last region.
 #[tactic(auto, unfolding(crate::specs::Reading::file_at))]
 fn file_of(bytes: &[u8]) -> Result<(FileChange, &[u8]), ListError>
-    ensures { Gives (λ x. (x.0, x.1.now)) result (file_at bytes.now) }
+    ensures { Parses (λ x. (x.0, x.1.now)) result (file_at bytes.now) }
 {
     let (inode, rest) = inode_of(bytes)?;
     let (last, rest) = last_of(rest)?;
@@ -106,7 +106,7 @@ fn some_files_of(
     count: u32,
     bytes: &[u8],
 ) -> Result<(Vec<FileChange>, &[u8]), ListError>
-    ensures { Gives (λ x. (x.0.items, x.1.now)) result (many_at file_at count bytes.now) }
+    ensures { Parses (λ x. (x.0.items, x.1.now)) result (many_at file_at count bytes.now) }
 {
     let mut files = Vec::new(alloc);
     let mut rest = bytes;
@@ -121,7 +121,7 @@ fn some_files_of(
 /// The files, which ascend, behind their number.
 #[tactic(auto, unfolding(crate::specs::Reading::files_at))]
 fn files_of(alloc: Global, bytes: &[u8]) -> Result<(Vec<FileChange>, &[u8]), ListError>
-    ensures { Gives (λ x. (x.0.items, x.1.now)) result (files_at bytes.now) }
+    ensures { Parses (λ x. (x.0.items, x.1.now)) result (files_at bytes.now) }
 {
     let (count, rest) = u32_at(bytes)?;
     let (files, rest) = some_files_of(alloc, count, rest)?;
@@ -134,7 +134,7 @@ fn files_of(alloc: Global, bytes: &[u8]) -> Result<(Vec<FileChange>, &[u8]), Lis
 /// The value of a region: 0 for one that is gone, 1 and the value.
 #[tactic(auto, unfolding(crate::specs::Reading::held_at))]
 fn held_of(alloc: Global, bytes: &[u8]) -> Result<(Option<RegionValue>, &[u8]), ListError>
-    ensures { Gives (λ x. (option_map value_row x.0, x.1.now)) result (held_at bytes.now) }
+    ensures { Parses (λ x. (option_map value_row x.0, x.1.now)) result (held_at bytes.now) }
 {
     let (kind, rest) = u8_at(bytes)?;
     match kind {
@@ -150,7 +150,7 @@ fn held_of(alloc: Global, bytes: &[u8]) -> Result<(Option<RegionValue>, &[u8]), 
 /// A region behind its file and its number.
 #[tactic(auto, unfolding(crate::specs::Reading::region_change_at))]
 fn region_of(alloc: Global, bytes: &[u8]) -> Result<(RegionChange, &[u8]), ListError>
-    ensures { Gives (λ x. (region_row x.0, x.1.now)) result (region_change_at bytes.now) }
+    ensures { Parses (λ x. (region_row x.0, x.1.now)) result (region_change_at bytes.now) }
 {
     let (inode, rest) = inode_of(bytes)?;
     let (number, rest) = u16_at(rest)?;
@@ -169,7 +169,7 @@ fn some_regions_of(
     count: u32,
     bytes: &[u8],
 ) -> Result<(Vec<RegionChange>, &[u8]), ListError>
-    ensures { Gives (λ x. (region_rows x.0.items, x.1.now)) result
+    ensures { Parses (λ x. (region_rows x.0.items, x.1.now)) result
         (many_at region_change_at count bytes.now) }
 {
     let mut regions = Vec::new(alloc);
@@ -185,7 +185,7 @@ fn some_regions_of(
 /// The regions, which ascend, behind their number.
 #[tactic(auto, unfolding(crate::specs::Reading::regions_at))]
 fn regions_of(alloc: Global, bytes: &[u8]) -> Result<(Vec<RegionChange>, &[u8]), ListError>
-    ensures { Gives (λ x. (region_rows x.0.items, x.1.now)) result (regions_at bytes.now) }
+    ensures { Parses (λ x. (region_rows x.0.items, x.1.now)) result (regions_at bytes.now) }
 {
     let (count, rest) = u32_at(bytes)?;
     let (regions, rest) = some_regions_of(alloc, count, rest)?;
@@ -198,7 +198,7 @@ fn regions_of(alloc: Global, bytes: &[u8]) -> Result<(Vec<RegionChange>, &[u8]),
 /// Changes, with no byte behind them.
 #[tactic(auto, unfolding(crate::specs::Reading::changes_of, crate::specs::Reading::changes_at))]
 pub(crate) fn changes_of(alloc: Global, bytes: &[u8]) -> Result<Changes, ListError>
-    ensures { Gives change_rows result (changes_of bytes.now) }
+    ensures { Parses change_rows result (changes_of bytes.now) }
 {
     let (installs, rest) = u64_at(bytes)?;
     let (next_tx, rest) = u64_at(rest)?;

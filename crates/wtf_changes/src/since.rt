@@ -110,6 +110,7 @@ fn add_now(
     match key {
         Key::Path(path) => return add_path(alloc, path, value, made),
         Key::Dir(_) => return Ok(()),
+        Key::Links(_) => return Ok(()),
         Key::Inode(inode) => return add_file(*inode, value, made),
         Key::Region(inode, number) => return add_region(*inode, *number, value, made),
     }

@@ -13,7 +13,7 @@ type Store = Kv<Key, Value>;
 
 /// The root alone: 4 servers, 2 replicas, regions of 65,536 bytes; no install, next transaction 1.
 const EMPTY_IMAGE: [u8; 42] = [
-    87, 84, 70, 73, 77, 71, 48, 49, 4, 2, 0, 1, 0, 0, 0, 0, 0, 0, 0, 0, 0, 0, 0, 0, 0, 0, 0, 0, 0,
+    87, 84, 70, 73, 77, 71, 48, 50, 4, 2, 0, 1, 0, 0, 0, 0, 0, 0, 0, 0, 0, 0, 0, 0, 0, 0, 0, 0, 0,
     1, 0, 0, 0, 1, 0, 1, 47, 0, 0, 0, 0, 0,
 ];
 
@@ -26,7 +26,7 @@ const BODY: [u8; 61] = [
 
 /// The image behind them.
 const FILE_IMAGE: [u8; 75] = [
-    87, 84, 70, 73, 77, 71, 48, 49, 4, 2, 0, 1, 0, 0, 0, 0, 0, 0, 0, 0, 0, 1, 0, 0, 0, 0, 0, 0, 0,
+    87, 84, 70, 73, 77, 71, 48, 50, 4, 2, 0, 1, 0, 0, 0, 0, 0, 0, 0, 0, 0, 1, 0, 0, 0, 0, 0, 0, 0,
     2, 0, 0, 0, 2, 0, 1, 47, 0, 0, 2, 47, 97, 1, 0, 0, 0, 0, 0, 0, 0, 1, 0, 0, 0, 1, 0, 0, 0, 1, 0,
     0, 0, 0, 0, 0, 0, 1, 0, 0, 0, 1, 0, 0, 0, 0,
 ];
@@ -39,7 +39,7 @@ const GONE: [u8; 61] = [
 
 /// The root alone again, behind those.
 const EMPTY_AGAIN: [u8; 42] = [
-    87, 84, 70, 73, 77, 71, 48, 49, 4, 2, 0, 1, 0, 0, 0, 0, 0, 0, 0, 0, 0, 2, 0, 0, 0, 0, 0, 0, 0,
+    87, 84, 70, 73, 77, 71, 48, 50, 4, 2, 0, 1, 0, 0, 0, 0, 0, 0, 0, 0, 0, 2, 0, 0, 0, 0, 0, 0, 0,
     3, 0, 0, 0, 1, 0, 1, 47, 0, 0, 0, 0, 0,
 ];
 
@@ -120,6 +120,18 @@ fn changes_are_made_in_an_image(rt: HostRuntime) -> Result<(), Fail> {
     assert_eq!(rt; file.as_slice(), FILE_IMAGE.as_slice());
     let empty = applied(rt.alloc(), &FILE_IMAGE, &GONE)?;
     assert_eq!(rt; empty.as_slice(), EMPTY_AGAIN.as_slice());
+    Ok(())
+}
+
+/// What comes of an image of the first version is one of the second.
+#[test]
+fn changes_are_made_in_an_old_image(rt: HostRuntime) -> Result<(), Fail> {
+    let mut old = EMPTY_IMAGE.to_vec(rt.alloc())?;
+    if let Some(version) = old.get_mut(7) {
+        *version = b'1';
+    }
+    let file = applied(rt.alloc(), old.as_slice(), &BODY[1..])?;
+    assert_eq!(rt; file.as_slice(), FILE_IMAGE.as_slice());
     Ok(())
 }
 

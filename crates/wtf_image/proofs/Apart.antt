@@ -1,5 +1,5 @@
--- The seeds of paths, regions and files: whose keys they are, and that those of different ones are apart.
-use Rattle.std.proofs.Common.{◌≡◌, ◌≢◌, ℕ, true, false, cond, List, [], ◌∷◌, None, Some, refl, sym, ap, subst, ◌∙◌, arith, inl, inr}
+-- The seeds of paths, regions, files and numbers of paths: whose keys they are, and that those of different ones are apart.
+use Rattle.std.proofs.Common.{◌≡◌, ◌≢◌, ℕ, true, false, cond, List, [], ◌∷◌, Option, None, Some, refl, sym, ap, subst, ◌∙◌, arith, inl, inr}
 use Rattle.std.specs.List.{flat_map}
 use Rattle.std.specs.FinMap.Entries.{find}
 use Rattle.std.specs.Ordering.{is_lt, is_eq, nat_cmp}
@@ -11,7 +11,7 @@ use Rattle.std.proofs.lemmas.Bool.{ltb-true, lt-ltb, both_ways, cases_Bool}
 use Rattle.wtf_base.specs.declared.ids.InodeId.{InodeId}
 use Rattle.wtf_values.specs.Keys.{key_cmp, inode_cmp}
 use Rattle.wtf_values.specs.declared.key.Key.{Key}
-use Rattle.wtf_values.specs.declared.key.Key.TheVariants.{Path, Dir, Inode, Region}
+use Rattle.wtf_values.specs.declared.key.Key.TheVariants.{Path, Dir, Inode, Region, Links}
 use Rattle.wtf_values.specs.declared.value.Node.{Node}
 use Rattle.wtf_values.specs.declared.value.Node.TheVariants.{Folder, File}
 use Rattle.wtf_values.proofs.KeyLaws.{key_total, at_itself, at_same, at_none}
@@ -19,8 +19,8 @@ use Rattle.wtf_imagefmt.specs.declared.records.PathRecord.{PathRecord}
 use Rattle.wtf_imagefmt.specs.Rows.{RegionRow, FileRow}
 use Rattle.wtf_imagefmt.specs.Shapes.{path_before, file_before, region_before}
 use Rattle.wtf_values.specs.Names.{NamesOf}
-use Rattle.wtf_imagefmt.specs.Lookups.{Plain, LastIs, plain_region, names_under}
-use Rattle.wtf_image.specs.Seeds.{path_seed, dir_seed_by, dir_seed, region_seed, last_seed, file_seeds}
+use Rattle.wtf_imagefmt.specs.Lookups.{Plain, LastIs, plain_region, names_under, count_row}
+use Rattle.wtf_image.specs.Seeds.{path_seed, dir_seed_by, dir_seed, region_seed, last_seed, file_seeds, count_seed_by, count_seed}
 
 less_is : (o : Ordering) → is_lt o ≡ true → o ≡ Less
 less_is Less e = refl
@@ -61,7 +61,8 @@ path_differs x y h = ap is_eq (less_is (slice_cmp nat_cmp x.path y.path) h)
 abbrev pub OwnsDir : PathRecord → Key → Type 0
 OwnsDir r q = q ≡ Dir r.path
 
-dir_apart_by : (x y : PathRecord) (q : Key) (n : Node) → path_before x y ≡ true → OwnsDir y q → (all : List PathRecord) → find key_cmp q (dir_seed_by (names_under x.path all) x.path n) ≡ None
+dir_apart_by : (x y : PathRecord) (q : Key) (n : Node) → path_before x y ≡ true → OwnsDir y q → (all : List PathRecord)
+    → find key_cmp q (dir_seed_by (names_under x.path all) x.path n) ≡ None
 dir_apart_by x y q Folder h owns all = missing_one q (Dir x.path) _ (λ same. key_before (Dir x.path) (Dir y.path) h (same ∙ owns))
 dir_apart_by x y q (File i) h owns all = refl
 
@@ -127,6 +128,18 @@ file_apart x y q h (ItsRegion m owns) = file_missing x q
     (λ same. no_inode x.inode y.inode m (same ∙ owns))
     (λ n same. other_inode x.inode y.inode h (inode_of_region x.inode y.inode n m (same ∙ owns)))
 
+-- ---- numbers of paths
+
+abbrev pub OwnsCount : FileRow → Key → Type 0
+OwnsCount f q = q ≡ Links f.inode
+
+count_apart_by : (x y : FileRow) (q : Key) (o : Option Plain) → file_before x y ≡ true → OwnsCount y q → find key_cmp q (count_seed_by x.inode o) ≡ None
+count_apart_by x y q None h owns = refl
+count_apart_by x y q (Some s) h owns = missing_one q (Links x.inode) s (λ same. key_before (Links x.inode) (Links y.inode) h (same ∙ owns))
+
+pub count_apart : (times : InodeId → ℕ) (x y : FileRow) (q : Key) → file_before x y ≡ true → OwnsCount y q → find key_cmp q (count_seed times x) ≡ None
+count_apart times x y q h owns = count_apart_by x y q (count_row (times x.inode)) h owns
+
 -- ---- whose keys the seeds are of
 
 one_found : (q k : Key) (v s : Plain) → find key_cmp q ((k, v) ∷ []) ≡ Some s → q ≡ k
@@ -158,8 +171,17 @@ regions_own i (r ∷ rs) q s h = elim (cases_Bool (is_at (key_cmp q) (Region i r
 pub file_owns : (f : FileRow) (q : Key) (s : Plain) → find key_cmp q (file_seeds f) ≡ Some s → OwnsFile f q
 file_owns f q s h = elim (cases_Bool (is_at (key_cmp q) (Inode f.inode))) [
   | inl tie ↦ ItsInode (at_same q (Inode f.inode) tie)
-  | inr off ↦ (let w = regions_own f.inode f.regions q s (sym (ap (λ b. cond b (Some (LastIs f.last)) (find key_cmp q (flat_map (region_seed f.inode) f.regions))) off) ∙ h) in ItsRegion w.0 w.1)
+  | inr off ↦ (let w = regions_own f.inode f.regions q s
+      (sym (ap (λ b. cond b (Some (LastIs f.last)) (find key_cmp q (flat_map (region_seed f.inode) f.regions))) off) ∙ h) in ItsRegion w.0 w.1)
 ]
 
-pub inode_apart : (f : FileRow) (q : Key) (s : Plain) → find key_cmp q (flat_map (region_seed f.inode) f.regions) ≡ Some s → find key_cmp q (last_seed f.inode f.last) ≡ None
+pub inode_apart : (f : FileRow) (q : Key) (s : Plain) → find key_cmp q (flat_map (region_seed f.inode) f.regions) ≡ Some s
+    → find key_cmp q (last_seed f.inode f.last) ≡ None
 inode_apart f q s h = let w = regions_own f.inode f.regions q s h in missing_one q (Inode f.inode) _ (λ same. no_inode f.inode f.inode w.0 (same ∙ w.1))
+
+count_owns_by : (i : InodeId) (o : Option Plain) (q : Key) (s : Plain) → find key_cmp q (count_seed_by i o) ≡ Some s → q ≡ Links i
+count_owns_by i None q s h = absurd (cc)
+count_owns_by i (Some v) q s h = one_found q (Links i) v s h
+
+pub count_owns : (times : InodeId → ℕ) (f : FileRow) (q : Key) (s : Plain) → find key_cmp q (count_seed times f) ≡ Some s → OwnsCount f q
+count_owns times f q s h = count_owns_by f.inode (count_row (times f.inode)) q s h

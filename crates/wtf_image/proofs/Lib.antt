@@ -6,8 +6,9 @@ pub mod Apart
 pub mod TreeLaws
 pub mod NameTables
 pub mod Found
-pub mod LoadLaws
 pub mod SaveTree
+pub mod Counted
+pub mod LoadLaws
 pub mod SaveFiles
 pub mod SaveMap
 pub mod StandsLaws

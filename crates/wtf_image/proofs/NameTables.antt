@@ -37,7 +37,8 @@ names_set old new d up name names set is =
     ]
 
 -- the directory in which a path stands has its name
-pub name_added : (old new : Dirs) (d up p : List ℕ) → table_names new d ≡ cond (is_at (slice_cmp nat_cmp up) d) (with_name (table_names old d) (name_of p)) (table_names old d)
+pub name_added : (old new : Dirs) (d up p : List ℕ)
+    → table_names new d ≡ cond (is_at (slice_cmp nat_cmp up) d) (with_name (table_names old d) (name_of p)) (table_names old d)
     → parent_of p ≡ Some up → table_names new d ≡ added_name d p (table_names old d)
 name_added old new d up p set parent =
     let test : is_at (slice_cmp nat_cmp up) d ≡ bytes_eq up d = is_eq-slice_cmp up d in
@@ -48,6 +49,7 @@ names_from-push : (s : NamesOf) (d : List ℕ) (rs : List PathRecord) (r : PathR
 names_from-push s d [] r = refl
 names_from-push s d (x ∷ rs) r = names_from-push (added_name d x.path s) d rs r
 
-pub names_more : (d : List ℕ) (rs : List PathRecord) (i : ℕ) (r : PathRecord) → i < length rs → r ≡ get_or rs i r → names_under d (take (i + 1) rs) ≡ added_name d r.path (names_under d (take i rs))
+pub names_more : (d : List ℕ) (rs : List PathRecord) (i : ℕ) (r : PathRecord) → i < length rs → r ≡ get_or rs i r
+    → names_under d (take (i + 1) rs) ≡ added_name d r.path (names_under d (take i rs))
 names_more d rs i r lt is =
     ap (names_under d) (take_more rs i r lt ∙ ap (λ (y : PathRecord). take i rs ++ y ∷ []) (sym is)) ∙ names_from-push no_names d (take i rs) r

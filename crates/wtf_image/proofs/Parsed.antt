@@ -2,7 +2,7 @@
 use Rattle.std.proofs.Common.{ℕ, List}
 use Rattle.wtf_spillfmt.specs.declared.error.ListError.{ListError}
 use Rattle.wtf_spillfmt.specs.declared.error.ListError.TheVariants as unread
-use Rattle.wtf_spillfmt.specs.Gives as gives
+use Rattle.wtf_spillfmt.specs.Parses as gives
 use Rattle.wtf_imagefmt.specs.Reading.{image_of}
 use Rattle.wtf_image.specs.Images.{IsNoneOr, no_image_by}
 pub use Rattle.wtf_imagefmt.proofs.Parsed.{is_image, no_image}

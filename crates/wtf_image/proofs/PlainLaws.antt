@@ -99,18 +99,27 @@ same_value (value.Node n) (value.Node k) h = let is : n ≡ k = cc in ap value.N
 same_value (value.Node n) (value.Names s) h = absurd (cc)
 same_value (value.Node n) (value.Last r) h = absurd (cc)
 same_value (value.Node n) (value.Region g) h = absurd (cc)
+same_value (value.Node n) (value.Count c) h = absurd (cc)
 same_value (value.Names s) (value.Node n) h = absurd (cc)
 same_value (value.Names s) (value.Names t) h = let is : s ≡ t = cc in ap value.Names is
 same_value (value.Names s) (value.Last r) h = absurd (cc)
 same_value (value.Names s) (value.Region g) h = absurd (cc)
+same_value (value.Names s) (value.Count c) h = absurd (cc)
 same_value (value.Last r) (value.Node n) h = absurd (cc)
 same_value (value.Last r) (value.Names s) h = absurd (cc)
 same_value (value.Last r) (value.Last q) h = let is : r ≡ q = cc in ap value.Last is
 same_value (value.Last r) (value.Region g) h = absurd (cc)
+same_value (value.Last r) (value.Count c) h = absurd (cc)
 same_value (value.Region v) (value.Node n) h = absurd (cc)
 same_value (value.Region v) (value.Names s) h = absurd (cc)
 same_value (value.Region v) (value.Last r) h = absurd (cc)
 same_value (value.Region v) (value.Region w) h = ap value.Region (same_region v w h)
+same_value (value.Region v) (value.Count c) h = absurd (cc)
+same_value (value.Count c) (value.Node n) h = absurd (cc)
+same_value (value.Count c) (value.Names s) h = absurd (cc)
+same_value (value.Count c) (value.Last r) h = absurd (cc)
+same_value (value.Count c) (value.Region g) h = absurd (cc)
+same_value (value.Count c) (value.Count d) h = let is : c ≡ d = cc in ap value.Count is
 
 pub same_optional : (v w : Option Value) → option_map plain v ≡ option_map plain w → v ≡ w
 same_optional None None h = refl

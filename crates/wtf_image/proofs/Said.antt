@@ -1,5 +1,6 @@
 -- What was loaded of an image has this image again: each of its files has just the regions that are read up to its last one.
-use Rattle.std.proofs.Common.{◌≡◌, ℕ, zero, suc, ◌+◌, ◌<◌, ◌≤◌, Bool, true, false, cond, ◌&&◌, ltb, List, [], ◌∷◌, map, Option, None, Some, refl, sym, ap, subst, ◌∙◌, IsSome, arith, inl, inr}
+use Rattle.std.proofs.Common.{◌≡◌, ℕ, zero, suc, ◌+◌, ◌<◌, ◌≤◌, Bool, true, false, cond, ◌&&◌, ltb, List, [], ◌∷◌, map, Option, None, Some, refl, sym, ap}
+use Rattle.std.proofs.Common.{subst, ◌∙◌, IsSome, arith, inl, inr}
 use Rattle.std.specs.List.{list_all, AllByRecursion}
 use Rattle.std.specs.Option.{option_map}
 use Rattle.std.specs.FinMap.Entries.{find}
@@ -13,14 +14,17 @@ use Rattle.wtf_values.specs.declared.value.Node.{Node}
 use Rattle.wtf_values.specs.declared.value.Value.{Value}
 use Rattle.wtf_meta.specs.Maps.{Map, metadata_at}
 use Rattle.wtf_image.specs.declared.loads.Loaded.{Loaded}
+use Rattle.wtf_imagefmt.specs.declared.records.Version.TheVariants.{Two}
 use Rattle.wtf_imagefmt.specs.Rows.{RegionRow, FileRow, ImageRows}
+use Rattle.wtf_imagefmt.specs.Texts.{image_text}
 use Rattle.wtf_imagefmt.specs.Shapes.{ascends, ascends_from, region_before, IsFileRow, IsImage}
 use Rattle.wtf_imagefmt.specs.Lookups.{NodeIs, LastIs, plain, plain_region, node_at, last_at, place_cmp, region_entry, region_at, row_at}
 use Rattle.wtf_image.specs.Rules.{is_before, is_good_region, is_good_file, AreGoodSettings, IsGoodTree}
 use Rattle.wtf_image.specs.Outcome.{IsLoadWithout}
-use Rattle.wtf_imagefmt.specs.Saving.{node_now, last_now, region_now, with_one, regions_below, file_with, file_at, Says, IsSaveOf}
+use Rattle.wtf_imagefmt.specs.Saving.{node_now, last_now, region_now, with_one, regions_below, file_with, file_at, Says, as_second, IsSaveOf}
 use Rattle.wtf_image.specs.Savable.{AreBefore}
-use Rattle.wtf_image.proofs.SaveFiles.{inode_same}
+use Rattle.wtf_image.specs.Tables.{shown}
+use Rattle.wtf_image.proofs.Counted.{inode_same}
 use Rattle.wtf_image.proofs.SaveTree.{last_is}
 use Rattle.wtf_image.proofs.SaveMap.{in_file, place_is, number_tie, number_same, number_off}
 
@@ -68,7 +72,8 @@ one_more k [] h = refl
 one_more k (x ∷ xs) h = elim (cases_lt x.number k) [
   | inl lt ↦ (
       let here : below k (x ∷ xs) ≡ x ∷ below k xs = ap (λ b. cond b (x ∷ below k xs) (below k xs)) (lt-ltb x.number k lt) in
-      let next : below (suc k) (x ∷ xs) ≡ x ∷ below (suc k) xs = ap (λ b. cond b (x ∷ below (suc k) xs) (below (suc k) xs)) (lt-ltb x.number (suc k) (omega arith)) in
+      let next : below (suc k) (x ∷ xs) ≡ x ∷ below (suc k) xs =
+      ap (λ b. cond b (x ∷ below (suc k) xs) (below (suc k) xs)) (lt-ltb x.number (suc k) (omega arith)) in
       let its : numbered (x ∷ xs) k ≡ numbered xs k = ap (λ b. cond b (Some x) (numbered xs k)) (number_off k x.number (λ same. absurd (omega arith))) in
       ap (λ l. with_one l (numbered (x ∷ xs) k)) here ∙ ap (with_one (x ∷ below k xs)) its ∙ with_behind x (below k xs) (numbered xs k)
       ∙ ap (λ l. x ∷ l) (one_more k xs (tail_ascends x xs h)) ∙ sym next)
@@ -76,13 +81,17 @@ one_more k (x ∷ xs) h = elim (cases_lt x.number k) [
       let here : below k (x ∷ xs) ≡ [] = ap (λ b. cond b (x ∷ below k xs) (below k xs)) (le-ltb x.number k le) ∙ none_below k x xs h (omega arith) in
       elim (cases_lt k x.number) [
         | inl less ↦ (
-            let next : below (suc k) (x ∷ xs) ≡ [] = ap (λ b. cond b (x ∷ below (suc k) xs) (below (suc k) xs)) (le-ltb x.number (suc k) (omega arith)) ∙ none_below (suc k) x xs h (omega arith) in
-            let its : numbered (x ∷ xs) k ≡ None = ap (λ b. cond b (Some x) (numbered xs k)) (number_off k x.number (λ same. absurd (omega arith))) ∙ none_numbered k x xs h (omega arith) in
+            let next : below (suc k) (x ∷ xs) ≡ [] = ap (λ b. cond b (x ∷ below (suc k) xs) (below (suc k) xs)) (le-ltb x.number (suc k) (omega arith))
+            ∙ none_below (suc k) x xs h (omega arith) in
+            let its : numbered (x ∷ xs) k ≡ None = ap (λ b. cond b (Some x) (numbered xs k)) (number_off k x.number (λ same. absurd (omega arith)))
+            ∙ none_numbered k x xs h (omega arith) in
             ap (λ l. with_one l (numbered (x ∷ xs) k)) here ∙ ap (with_one []) its ∙ sym next)
         | inr other ↦ (
             let same : k ≡ x.number = omega arith in
-            let next : below (suc k) (x ∷ xs) ≡ x ∷ [] = ap (λ b. cond b (x ∷ below (suc k) xs) (below (suc k) xs)) (lt-ltb x.number (suc k) (omega arith)) ∙ ap (λ l. x ∷ l) (none_below (suc k) x xs h (omega arith)) in
-            let its : numbered (x ∷ xs) k ≡ Some x = ap (λ b. cond b (Some x) (numbered xs k)) (ap (λ n. is_eq (nat_cmp n x.number)) same ∙ number_tie x.number) in
+            let next : below (suc k) (x ∷ xs) ≡ x ∷ [] = ap (λ b. cond b (x ∷ below (suc k) xs) (below (suc k) xs)) (lt-ltb x.number (suc k) (omega arith))
+            ∙ ap (λ l. x ∷ l) (none_below (suc k) x xs h (omega arith)) in
+            let its : numbered (x ∷ xs) k ≡ Some x = ap (λ b. cond b (Some x) (numbered xs k))
+            (ap (λ n. is_eq (nat_cmp n x.number)) same ∙ number_tie x.number) in
             ap (λ l. with_one l (numbered (x ∷ xs) k)) here ∙ ap (with_one []) its ∙ sym next)
       ])
 ]
@@ -91,7 +100,8 @@ none_yet : (rs : List RegionRow) → below 0 rs ≡ []
 none_yet [] = refl
 none_yet (x ∷ xs) = ap (λ b. cond b (x ∷ below 0 xs) (below 0 xs)) (le-ltb x.number 0 (omega arith)) ∙ none_yet xs
 
-gathered : (now : ℕ → Option RegionRow) (rs : List RegionRow) → ascends region_before rs ≡ true → ((r : ℕ) → now r ≡ numbered rs r) → (k : ℕ) → regions_below now k ≡ below k rs
+gathered : (now : ℕ → Option RegionRow) (rs : List RegionRow) → ascends region_before rs ≡ true → ((r : ℕ) → now r ≡ numbered rs r) → (k : ℕ)
+    → regions_below now k ≡ below k rs
 gathered now rs h is zero = sym (none_yet rs)
 gathered now rs h is (suc k) = ap (λ l. with_one l (now k)) (gathered now rs h is k) ∙ ap (with_one (below k rs)) (is k) ∙ one_more k rs h
 
@@ -108,13 +118,15 @@ all_below b last (x ∷ xs) h =
 number_of : (rs : List RegionRow) (r : ℕ) (row : RegionRow) → numbered rs r ≡ Some row → row.number ≡ r
 number_of [] r row h = absurd (cc)
 number_of (x ∷ xs) r row h = elim (cases_Bool (is_eq (nat_cmp r x.number))) [
-  | inl tie ↦ (let is : Some x ≡ Some row = sym (ap (λ b. cond b (Some x) (numbered xs r)) tie) ∙ h in let it : x ≡ row = cc in ap (λ (y : RegionRow). y.number) (sym it) ∙ sym (number_same r x.number tie))
+  | inl tie ↦ (let is : Some x ≡ Some row = sym (ap (λ b. cond b (Some x) (numbered xs r)) tie) ∙ h in let it : x ≡ row = cc in
+      ap (λ (y : RegionRow). y.number) (sym it) ∙ sym (number_same r x.number tie))
   | inr off ↦ number_of xs r row (sym (ap (λ b. cond b (Some x) (numbered xs r)) off) ∙ h)
 ]
 
 found_is : (i : InodeId) (rs : List RegionRow) (r : ℕ) → find place_cmp (i, r) (map (region_entry i) rs) ≡ numbered rs r
 found_is i [] r = refl
-found_is i (x ∷ xs) r = ap (λ b. cond b (Some x) (find place_cmp (i, r) (map (region_entry i) xs))) (place_is i r x.number) ∙ ap (cond (is_eq (nat_cmp r x.number)) (Some x)) (found_is i xs r)
+found_is i (x ∷ xs) r = ap (λ b. cond b (Some x) (find place_cmp (i, r) (map (region_entry i) xs))) (place_is i r x.number)
+    ∙ ap (cond (is_eq (nat_cmp r x.number)) (Some x)) (found_is i xs r)
 
 row_again : (r : ℕ) (o : Option RegionRow) → ((row : RegionRow) → o ≡ Some row → row.number ≡ r) → region_now r (option_map plain_region o) ≡ o
 row_again r None is = refl
@@ -125,7 +137,8 @@ row_again r (Some row) is = ap (λ n. Some (record { number = n; end = row.end; 
 file_inode : (i : InodeId) (fs : List FileRow) (f : FileRow) → file_at fs i ≡ Some f → f.inode ≡ i
 file_inode i [] f h = absurd (cc)
 file_inode i (g ∷ fs) f h = elim (cases_Bool (is_eq (inode_cmp i g.inode))) [
-  | inl tie ↦ (let is : Some g ≡ Some f = sym (ap (λ b. cond b (Some g) (file_at fs i)) tie) ∙ h in let it : g ≡ f = cc in ap (λ (x : FileRow). x.inode) (sym it) ∙ sym (inode_same i g.inode tie))
+  | inl tie ↦ (let is : Some g ≡ Some f = sym (ap (λ b. cond b (Some g) (file_at fs i)) tie) ∙ h in let it : g ≡ f = cc in
+      ap (λ (x : FileRow). x.inode) (sym it) ∙ sym (inode_same i g.inode tie))
   | inr off ↦ file_inode i fs f (sym (ap (λ b. cond b (Some g) (file_at fs i)) off) ∙ h)
 ]
 
@@ -152,15 +165,19 @@ last_again (Some n) = refl
 module _ (x : ImageRows) (form : IsImage x) (good : IsGoodTree x) where
   region_again : (i : InodeId) (f : FileRow) → file_at x.files i ≡ Some f → (r : ℕ) → region_now r (row_at x (Region i r)) ≡ numbered f.regions r
   region_again i f h r =
-      let at : region_at x.files i r ≡ numbered f.regions r = in_file i r x.files f form.files.ascend h ∙ ap (λ j. find place_cmp (i, r) (map (region_entry j) f.regions)) (file_inode i x.files f h) ∙ found_is i f.regions r in
+      let at : region_at x.files i r ≡ numbered f.regions r = in_file i r x.files f form.files.ascend h
+      ∙ ap (λ j. find place_cmp (i, r) (map (region_entry j) f.regions)) (file_inode i x.files f h) ∙ found_is i f.regions r in
       ap (λ o. region_now r (option_map plain_region o)) at ∙ row_again r (numbered f.regions r) (number_of f.regions r)
 
   file_again : (i : InodeId) (o : Option FileRow) → file_at x.files i ≡ o → o ≡ option_map (file_with (row_at x) i) (option_map (λ f. f.last) o)
   file_again i None h = refl
   file_again i (Some f) h =
       let ascend : ascends region_before f.regions ≡ true = (of_file IsFileRow i x.files f form.files.each h).ascend in
-      let its : is_good_file x.header.region f ≡ true = of_file (λ g. is_good_file x.header.region g ≡ true) i x.files f (all_of (is_good_file x.header.region) x.files good.files) h in
-      let regions : regions_below (λ r. region_now r (row_at x (Region i r))) (f.last + 1) ≡ f.regions = gathered (λ r. region_now r (row_at x (Region i r))) f.regions ascend (region_again i f h) (f.last + 1) ∙ all_below x.header.region f.last f.regions (and_both _ _ (and_both _ _ its).1).0 in
+      let its : is_good_file x.header.region f ≡ true = of_file (λ g. is_good_file x.header.region g ≡ true) i x.files f
+      (all_of (is_good_file x.header.region) x.files good.files) h in
+      let regions : regions_below (λ r. region_now r (row_at x (Region i r))) (f.last + 1) ≡ f.regions =
+      gathered (λ r. region_now r (row_at x (Region i r))) f.regions ascend (region_again i f h) (f.last + 1)
+      ∙ all_below x.header.region f.last f.regions (and_both _ _ (and_both _ _ its).1).0 in
       let inode : f.inode ≡ i = file_inode i x.files f h in
       λ j. Some (record { inode = inode j; last = f.last; regions = sym regions j })
 
@@ -192,12 +209,16 @@ before_of x w good is = λ i some.
 
 -- ---- what was loaded
 
--- the bytes are the image of the store, its settings and its next transaction, and each of its inodes is of one before
-pub saves_again : (lost : ℕ → Bool) (size : ℕ → ℕ → ℕ) (bytes : List ℕ) (l : Loaded) → IsLoadWithout lost size bytes l
-    → IsSaveOf l.kv l.settings l.next_tx bytes
+-- the same rows are the image of the store, its settings and its next transaction, and each of its inodes is of one before
+pub saves_again : (lost : ℕ → Bool) (size : ℕ → ℕ → ℕ) (bytes : List ℕ) (l : Loaded) (load : IsLoadWithout lost size bytes l)
+    → IsSaveOf l.kv l.settings l.next_tx (image_text (as_second load.rows))
 saves_again lost size bytes l load = record {
-  rows = load.rows;
-  text = load.taken.text;
+  rows = as_second load.rows;
+  text = record {
+    shape = record { header = load.taken.text.shape.header; paths = load.taken.text.shape.paths; files = load.taken.text.shape.files };
+    text = refl;
+  };
+  version = refl;
   header = λ j. record {
     servers = sym load.settings.servers j;
     replicas = sym load.settings.replicas j;
@@ -205,8 +226,20 @@ saves_again lost size bytes l load = record {
     installs = sym load.store.number j;
     next_tx = sym load.next_tx j;
   };
-  says = subst (λ m. Says m load.rows) (λ j q. sym (load.store.map q) j) (says_itself load.rows load.taken.text.shape load.taken.tree);
+  says = record { paths = said.paths; files = said.files };
 }
+  where
+    said : Says (shown l.kv) load.rows
+    said = subst (λ m. Says m load.rows) (λ j q. sym (load.store.map q) j) (says_itself load.rows load.taken.text.shape load.taken.tree)
+
+as_it_is : (x : ImageRows) → x.version ≡ Two → as_second x ≡ x
+as_it_is x two = λ i. record { version = sym two i; header = x.header; paths = x.paths; files = x.files }
+
+-- these are the bytes, where they are an image of the second version
+pub saves_the_same : (lost : ℕ → Bool) (size : ℕ → ℕ → ℕ) (bytes : List ℕ) (l : Loaded) (load : IsLoadWithout lost size bytes l) → load.rows.version ≡ Two
+    → IsSaveOf l.kv l.settings l.next_tx bytes
+saves_the_same lost size bytes l load two =
+    subst (IsSaveOf l.kv l.settings l.next_tx) (ap image_text (as_it_is load.rows two) ∙ sym load.taken.text.text) (saves_again lost size bytes l load)
 
 pub loaded_before : (lost : ℕ → Bool) (size : ℕ → ℕ → ℕ) (bytes : List ℕ) (l : Loaded) → IsLoadWithout lost size bytes l
     → AreBefore l.next_tx (metadata_at l.kv l.kv.number)

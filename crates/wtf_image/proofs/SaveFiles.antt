@@ -1,32 +1,30 @@
--- The files of metadata that can be saved: each is named once, and its regions are good.
-use Rattle.std.proofs.Common.{◌≡◌, ◌≢◌, ℕ, zero, suc, ◌+◌, ◌<◌, Bool, true, false, cond, ◌&&◌, ◌||◌, eqb, ltb, leb, List, [], ◌∷◌, ◌++◌, count_by, Option, None, Some, refl, sym, ap, subst, ◌∙◌, arith, inl, inr, zero-add}
+-- The files of metadata that can be saved: each is named by a path, and its regions are good.
+use Rattle.std.proofs.Common.{◌≡◌, ℕ, zero, suc, ◌+◌, ◌<◌, Bool, true, false, cond, ◌&&◌, ◌||◌, eqb, ltb, leb, List, [], ◌∷◌, ◌++◌, Option, None, Some, refl}
+use Rattle.std.proofs.Common.{sym, ap, subst, ◌∙◌, arith, inl, inr}
 use Rattle.std.specs.List.{list_all, list_any, AllByRecursion}
 use Rattle.std.specs.Option.{option_map}
-use Rattle.std.specs.Ordering.{is_eq, is_lt, nat_cmp}
-use Rattle.std.specs.Cmp.Lexicographic.{slice_cmp}
+use Rattle.std.specs.Ordering.{is_eq, is_lt}
 use Rattle.std.specs.declared.cmp.Ordering.{Ordering}
 use Rattle.std.specs.declared.cmp.Ordering.TheVariants.{Less, Equal, Greater}
-use Rattle.std.proofs.lemmas.List.Sums.{sum_by-cons}
-use Rattle.std.proofs.lemmas.Bool.{cases_Bool, both_ways, lt-ltb, le-leb, eqb-false}
+use Rattle.std.proofs.lemmas.Bool.{cases_Bool, lt-ltb, le-leb, eqb-false}
 use Rattle.wtf_base.specs.declared.ids.InodeId.{InodeId}
 use Rattle.wtf_values.specs.Keys.{inode_cmp}
-use Rattle.wtf_values.specs.declared.key.Key.TheVariants.{Path, Inode, Region}
-use Rattle.wtf_values.specs.declared.value.Node.{Node}
-use Rattle.wtf_values.specs.declared.value.Node.TheVariants.{Folder, File}
-use Rattle.wtf_values.proofs.KeyLaws.{at_itself, at_same}
+use Rattle.wtf_values.specs.declared.key.Key.TheVariants.{Inode, Region}
+use Rattle.wtf_values.specs.declared.value.Node.TheVariants.{File}
+use Rattle.wtf_values.proofs.KeyLaws.{at_itself}
 use Rattle.wtf_spillfmt.proofs.Codecs.{some_is}
-use Rattle.wtf_imagefmt.specs.declared.records.PathRecord.{PathRecord}
+use Rattle.wtf_imagefmt.specs.declared.records.Version.TheVariants.{Two}
 use Rattle.wtf_imagefmt.specs.Rows.{RegionRow, FileRow, ImageRows}
-use Rattle.wtf_imagefmt.specs.Shapes.{ascends, ascends_from, path_before, file_before, IsImage}
-use Rattle.wtf_imagefmt.specs.Lookups.{Plain, NodeIs, NamesAre, LastIs, RegionIs, node_at}
-use Rattle.wtf_image.specs.Rules.{is_name_of, is_named_once, is_before, is_good_region, is_last, is_good_file}
+use Rattle.wtf_imagefmt.specs.Shapes.{ascends, ascends_from, file_before, IsImage}
+use Rattle.wtf_imagefmt.specs.Lookups.{Plain, NodeIs, NamesAre, LastIs, RegionIs, CountIs, node_at, times_named}
+use Rattle.wtf_image.specs.Rules.{is_named, is_before, is_good_region, is_last, is_good_file}
 use Rattle.wtf_image.specs.Tables.{Shown}
 use Rattle.wtf_imagefmt.specs.Saving.{node_now, last_now, region_now, with_one, regions_below, region_in, file_with, file_at, Says}
 use Rattle.wtf_image.specs.Savable.{end_now, IsSavable}
-use Rattle.wtf_image.proofs.Apart.{path_trans, path_differs, file_trans}
-use Rattle.wtf_image.proofs.Found.{tail_ascends}
+use Rattle.wtf_image.proofs.Apart.{file_trans}
+use Rattle.wtf_image.proofs.Counted.{inode_same, named_some}
 use Rattle.wtf_imagefmt.proofs.Gathered.{region_numbered}
-use Rattle.wtf_image.proofs.SaveTree.{all_from, all_weaker, all_found, shown_node, tie_itself, tie_same, some_value}
+use Rattle.wtf_image.proofs.SaveTree.{all_from, all_weaker, some_value}
 
 -- ---- files of a list that rises
 
@@ -62,12 +60,11 @@ files_tail x (y ∷ ys) h = (and_both _ _ h).1
 pub inode_tie : (i : InodeId) → is_eq (inode_cmp i i) ≡ true
 inode_tie i = at_itself (Inode i)
 
-pub inode_same : (i j : InodeId) → is_eq (inode_cmp i j) ≡ true → i ≡ j
-inode_same i j h = let same : Inode i ≡ Inode j = at_same (Inode i) (Inode j) h in cc
-
-file_in : (r : FileRow) (fs : List FileRow) (i : InodeId) (f : FileRow) → ascends_from file_before r fs ≡ true → file_at fs i ≡ Some f → file_at (r ∷ fs) i ≡ Some f
+file_in : (r : FileRow) (fs : List FileRow) (i : InodeId) (f : FileRow) → ascends_from file_before r fs ≡ true → file_at fs i ≡ Some f
+    → file_at (r ∷ fs) i ≡ Some f
 file_in r fs i f h e = elim (cases_Bool (is_eq (inode_cmp i r.inode))) [
-  | inl tie ↦ (let none : file_at fs i ≡ None = ap (file_at fs) (inode_same i r.inode tie) ∙ file_after r fs h in let bad : None ≡ Some f = sym none ∙ e in absurd (cc))
+  | inl tie ↦ (let none : file_at fs i ≡ None = ap (file_at fs) (inode_same i r.inode tie) ∙ file_after r fs h in
+      let bad : None ≡ Some f = sym none ∙ e in absurd (cc))
   | inr off ↦ ap (λ b. cond b (Some r) (file_at fs i)) off ∙ e
 ]
 
@@ -75,64 +72,14 @@ pub each_file : (fs : List FileRow) → ascends file_before fs ≡ true → AllB
 each_file [] h = tt
 each_file (r ∷ fs) h = (
   ap (λ b. cond b (Some r) (file_at fs r.inode)) (inode_tie r.inode),
-  all_weaker (λ f. file_at fs f.inode ≡ Some f) (λ f. file_at (r ∷ fs) f.inode ≡ Some f) (λ f e. file_in r fs f.inode f h e) fs (each_file fs (files_tail r fs h)),
+  all_weaker (λ f. file_at fs f.inode ≡ Some f) (λ f. file_at (r ∷ fs) f.inode ≡ Some f) (λ f e. file_in r fs f.inode f h e) fs
+      (each_file fs (files_tail r fs h)),
 )
-
--- ---- an inode that one path alone names is named once
-
-name_head : (i : InodeId) (n : Node) → is_name_of i n ≡ true → n ≡ File i
-name_head i Folder h = absurd (cc)
-name_head i (File j) h = ap File (inode_same j i h)
-
-count_cons : (i : InodeId) (r : PathRecord) (rs : List PathRecord) → count_by (λ (r : PathRecord). is_name_of i r.node) (r ∷ rs) ≡ cond (is_name_of i r.node) 1 0 + count_by (λ (r : PathRecord). is_name_of i r.node) rs
-count_cons i r rs = sum_by-cons (λ (r : PathRecord). cond (is_name_of i r.node) 1 0) r rs
-
-none_named : (i : InodeId) (rs : List PathRecord) → AllByRecursion (λ r. is_name_of i r.node ≡ false) rs → count_by (λ r. is_name_of i r.node) rs ≡ 0
-none_named i [] h = refl
-none_named i (r ∷ rs) h = count_cons i r rs ∙ ap (λ b. cond b 1 0 + count_by (λ (r : PathRecord). is_name_of i r.node) rs) h.0 ∙ zero-add (count_by (λ (r : PathRecord). is_name_of i r.node) rs) ∙ none_named i rs h.1
-
--- records after one are not at its path
-all_later : (p w : PathRecord) (rs : List PathRecord) → path_before p w ≡ true → ascends_from path_before w rs ≡ true → AllByRecursion (λ r. r.path ≢ p.path) rs
-all_later p w [] first h = tt
-all_later p w (y ∷ ys) first h =
-    let both = and_both _ _ h in
-    let before = path_trans p w y first both.0 in
-    ((λ same. both_ways _ (path_differs p y before) (subst (λ q. is_eq (slice_cmp nat_cmp p.path q) ≡ true) (sym same) (tie_itself p.path))), all_later p y ys before both.1)
-
-all_after : (p : PathRecord) (rs : List PathRecord) → ascends_from path_before p rs ≡ true → AllByRecursion (λ r. r.path ≢ p.path) rs
-all_after p [] h = tt
-all_after p (y ∷ ys) h =
-    let both = and_both _ _ h in
-    ((λ same. both_ways _ (path_differs p y both.0) (subst (λ q. is_eq (slice_cmp nat_cmp p.path q) ≡ true) (sym same) (tie_itself p.path))), all_later p y ys both.0 both.1)
-
-both_all : {A : Type 0} (F G H : A → Type 0) → ((x : A) → F x → G x → H x) → (xs : List A) → AllByRecursion F xs → AllByRecursion G xs → AllByRecursion H xs
-both_all F G H w [] f g = tt
-both_all F G H w (x ∷ xs) f g = (w x f.0 g.0, both_all F G H w xs f.1 g.1)
-
-off_name : (i : InodeId) (n : Node) → (is_name_of i n ≡ true → ⊥) → is_name_of i n ≡ false
-off_name i n off = elim (cases_Bool (is_name_of i n)) [ inl yes' ↦ absurd (off yes') | inr no' ↦ no' ]
-
--- the head's path is p, or it is not
-named_once : (i : InodeId) (p : List ℕ) (rs : List PathRecord) → ascends path_before rs ≡ true → node_at rs p ≡ Some (File i)
-    → AllByRecursion (λ r. is_name_of i r.node ≡ true → r.path ≡ p) rs → count_by (λ r. is_name_of i r.node) rs ≡ 1
-named_once i p [] h here only = absurd (cc)
-named_once i p (r ∷ rs) h here only = elim (cases_Bool (is_eq (slice_cmp nat_cmp p r.path))) [
-  | inl tie ↦ (
-      let same : p ≡ r.path = tie_same p r.path tie in
-      let node : r.node ≡ File i = some_is r.node (File i) (sym (ap (λ b. cond b (Some r.node) (node_at rs p)) tie) ∙ here) in
-      let named : is_name_of i r.node ≡ true = ap (is_name_of i) node ∙ inode_tie i in
-      let rest = both_all (λ (s : PathRecord). s.path ≢ r.path) (λ s. is_name_of i s.node ≡ true → s.path ≡ p) (λ s. is_name_of i s.node ≡ false)
-      (λ s off at. off_name i s.node (λ h. off (at h ∙ same))) rs (all_after r rs h) only.1 in
-      count_cons i r rs ∙ ap (λ b. cond b 1 0 + count_by (λ (r : PathRecord). is_name_of i r.node) rs) named ∙ ap (λ n. 1 + n) (none_named i rs rest))
-  | inr off ↦ (
-      let unnamed : is_name_of i r.node ≡ false = off_name i r.node (λ h. both_ways _ off (subst (λ q. is_eq (slice_cmp nat_cmp p q) ≡ true) (sym (only.0 h)) (tie_itself p))) in
-      let later : node_at rs p ≡ Some (File i) = sym (ap (λ b. cond b (Some r.node) (node_at rs p)) off) ∙ here in
-      count_cons i r rs ∙ ap (λ b. cond b 1 0 + count_by (λ (r : PathRecord). is_name_of i r.node) rs) unnamed ∙ zero-add (count_by (λ (r : PathRecord). is_name_of i r.node) rs) ∙ named_once i p rs (tail_ascends r rs h) later only.1)
-]
 
 -- ---- regions
 
-below_each : (now : ℕ → Option RegionRow) (P : RegionRow → Type 0) (n : ℕ) → ((r : ℕ) (row : RegionRow) → r < n → now r ≡ Some row → P row) → AllByRecursion P (regions_below now n)
+below_each : (now : ℕ → Option RegionRow) (P : RegionRow → Type 0) (n : ℕ) → ((r : ℕ) (row : RegionRow) → r < n → now r ≡ Some row → P row)
+    → AllByRecursion P (regions_below now n)
 below_each now P zero each = tt
 below_each now P (suc n) each = one (regions_below now n) (now n) refl (below_each now P n (λ r row lt e. each r row (omega (arith, lt)) e))
   where
@@ -148,6 +95,7 @@ region_end : (r : ℕ) (s : Option Plain) (row : RegionRow) → region_now r s �
 region_end r None row e = absurd (cc)
 region_end r (Some (NodeIs n)) row e = absurd (cc)
 region_end r (Some (NamesAre names)) row e = absurd (cc)
+region_end r (Some (CountIs n)) row e = absurd (cc)
 region_end r (Some (LastIs n)) row e = absurd (cc)
 region_end r (Some (RegionIs end base entries)) row e =
     let is : record { number = r; end = end; base = base; entries = entries } ≡ row =
@@ -159,6 +107,7 @@ there : (r : ℕ) (s : Option Plain) → 0 < end_now s → (row : RegionRow) × 
 there r None lt = absurd (omega (arith, lt))
 there r (Some (NodeIs n)) lt = absurd (omega (arith, lt))
 there r (Some (NamesAre names)) lt = absurd (omega (arith, lt))
+there r (Some (CountIs n)) lt = absurd (omega (arith, lt))
 there r (Some (LastIs n)) lt = absurd (omega (arith, lt))
 there r (Some (RegionIs end base entries)) lt = (record { number = r; end = end; base = base; entries = entries }, refl)
 
@@ -174,10 +123,12 @@ eqb_is : (n : ℕ) → eqb n n ≡ true
 eqb_is n = elim (cases_Bool (eqb n n)) [ inl h ↦ h | inr h ↦ absurd (omega (arith, eqb-false _ _ h)) ]
 
 module _ (b next_tx : ℕ) (m : Shown) (savable : IsSavable b next_tx m) (x : ImageRows) (form : IsImage x) (says : Says m x) where
-  from_last : (i : InodeId) (f : FileRow) (o : Option Plain) → option_map (file_with m i) (last_now o) ≡ Some f → (n : ℕ) × (o ≡ Some (LastIs n)) × (file_with m i n ≡ f)
+  from_last : (i : InodeId) (f : FileRow) (o : Option Plain) → option_map (file_with m i) (last_now o) ≡ Some f → (n : ℕ) × (o ≡ Some (LastIs n))
+      × (file_with m i n ≡ f)
   from_last i f None e = absurd (cc)
   from_last i f (Some (NodeIs n)) e = absurd (cc)
   from_last i f (Some (NamesAre names)) e = absurd (cc)
+  from_last i f (Some (CountIs n)) e = absurd (cc)
   from_last i f (Some (LastIs n)) e = (n, refl, some_is (file_with m i n) f e)
   from_last i f (Some (RegionIs end base entries)) e = absurd (cc)
 
@@ -192,23 +143,20 @@ module _ (b next_tx : ℕ) (m : Shown) (savable : IsSavable b next_tx m) (x : Im
   before_good f e = let w = row_is f e in lt-ltb _ _ (savable.before f.inode (some_value (m (Inode f.inode)) (LastIs w.0) w.1))
 
   pub files_before_good : list_all (λ f. is_before next_tx f.inode) x.files ≡ true
-  files_before_good = all_from (λ (f : FileRow). is_before next_tx f.inode) x.files (all_weaker (λ f. file_at x.files f.inode ≡ Some f) (λ f. is_before next_tx f.inode ≡ true) before_good x.files every_file)
+  files_before_good = all_from (λ (f : FileRow). is_before next_tx f.inode) x.files
+      (all_weaker (λ f. file_at x.files f.inode ≡ Some f) (λ f. is_before next_tx f.inode ≡ true) before_good x.files every_file)
 
-  only_one : (i : InodeId) (p : List ℕ) → m (Path p) ≡ Some (NodeIs (File i)) → (r : PathRecord) → node_at x.paths r.path ≡ Some r.node → is_name_of i r.node ≡ true → r.path ≡ p
-  only_one i p leads r e named =
-      let node : r.node ≡ File i = name_head i r.node named in
-      savable.apart r.path p i (shown_node b next_tx m savable x form says r.path r.node e ∙ ap (λ n. Some (NodeIs n)) node) leads
-
-  named_good : (f : FileRow) → file_at x.files f.inode ≡ Some f → is_named_once x.paths f ≡ true
-  named_good f e =
+  named_good : x.version ≡ Two → (f : FileRow) → file_at x.files f.inode ≡ Some f → is_named x.version x.paths f ≡ true
+  named_good two f e =
       let w = row_is f e in
       let led = savable.led f.inode (some_value (m (Inode f.inode)) (LastIs w.0) w.1) in
       let here : node_at x.paths led.0 ≡ Some (File f.inode) = says.paths led.0 ∙ ap node_now led.1 in
-      let only = all_weaker (λ (r : PathRecord). node_at x.paths r.path ≡ Some r.node) (λ r. is_name_of f.inode r.node ≡ true → r.path ≡ led.0) (only_one f.inode led.0 led.1) x.paths (all_found b next_tx m savable x form says) in
-      ap (λ n. eqb n 1) (named_once f.inode led.0 x.paths form.paths.ascend here only)
+      ap (λ v. is_named v x.paths f) two ∙ le-leb 1 (times_named x.paths f.inode) (named_some f.inode led.0 x.paths here)
 
-  pub named_all : list_all (is_named_once x.paths) x.files ≡ true
-  named_all = all_from (is_named_once x.paths) x.files (all_weaker (λ f. file_at x.files f.inode ≡ Some f) (λ f. is_named_once x.paths f ≡ true) named_good x.files every_file)
+  pub named_all : x.version ≡ Two → list_all (is_named x.version x.paths) x.files ≡ true
+  named_all two =
+      all_from (is_named x.version x.paths) x.files
+      (all_weaker (λ f. file_at x.files f.inode ≡ Some f) (λ f. is_named x.version x.paths f ≡ true) (named_good two) x.files every_file)
 
   region_good : (i : InodeId) (n r : ℕ) (row : RegionRow) → r < n + 1 → region_in m i r ≡ Some row → is_good_region b n row ≡ true
   region_good i n r row lt e =
@@ -221,7 +169,8 @@ module _ (b next_tx : ℕ) (m : Shown) (savable : IsSavable b next_tx m) (x : Im
       let row = there n (m (Region i n)) lt in
       let number = region_numbered n (m (Region i n)) row.0 row.1 in
       let end = region_end n (m (Region i n)) row.0 row.1 in
-      let test : is_last n row.0 ≡ true = ap (λ k. eqb k n && ltb 0 row.0.end) number ∙ ap (λ t. t && ltb 0 row.0.end) (eqb_is n) ∙ lt-ltb 0 row.0.end (omega (arith, end, lt)) in
+      let test : is_last n row.0 ≡ true = ap (λ k. eqb k n && ltb 0 row.0.end) number ∙ ap (λ t. t && ltb 0 row.0.end) (eqb_is n)
+      ∙ lt-ltb 0 row.0.end (omega (arith, end, lt)) in
       ap (λ o. list_any (is_last n) (with_one (regions_below (region_in m i) n) o)) row.1 ∙ any_last (is_last n) (regions_below (region_in m i) n) row.0 test
 
   last_good : (i : InodeId) (n : ℕ) → (0 < n → 0 < end_now (m (Region i n))) → (eqb n 0 || list_any (is_last n) (regions_below (region_in m i) (n + 1))) ≡ true
@@ -234,7 +183,8 @@ module _ (b next_tx : ℕ) (m : Shown) (savable : IsSavable b next_tx m) (x : Im
   file_with_good : (i : InodeId) (n : ℕ) → m (Inode i) ≡ Some (LastIs n) → is_good_file b (file_with m i n) ≡ true
   file_with_good i n e =
       let rs = regions_below (region_in m i) (n + 1) in
-      let all : list_all (is_good_region b n) rs ≡ true = all_from (is_good_region b n) rs (below_each (region_in m i) (λ row. is_good_region b n row ≡ true) (n + 1) (region_good i n)) in
+      let all : list_all (is_good_region b n) rs ≡ true =
+      all_from (is_good_region b n) rs (below_each (region_in m i) (λ row. is_good_region b n row ≡ true) (n + 1) (region_good i n)) in
       ap (λ t. t && (list_all (is_good_region b n) rs && (eqb n 0 || list_any (is_last n) rs))) (le-leb n 4095 (omega (arith, savable.few i n e)))
       ∙ ap (λ t. t && (eqb n 0 || list_any (is_last n) rs)) all ∙ last_good i n (savable.bytes i n e)
 
@@ -242,4 +192,5 @@ module _ (b next_tx : ℕ) (m : Shown) (savable : IsSavable b next_tx m) (x : Im
   file_good f e = let w = row_is f e in subst (λ g. is_good_file b g ≡ true) w.2 (file_with_good f.inode w.0 w.1)
 
   pub files_good : list_all (is_good_file b) x.files ≡ true
-  files_good = all_from (is_good_file b) x.files (all_weaker (λ f. file_at x.files f.inode ≡ Some f) (λ f. is_good_file b f ≡ true) file_good x.files every_file)
+  files_good = all_from (is_good_file b) x.files (all_weaker (λ f. file_at x.files f.inode ≡ Some f)
+      (λ f. is_good_file b f ≡ true) file_good x.files every_file)

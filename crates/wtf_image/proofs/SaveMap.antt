@@ -1,5 +1,6 @@
 -- The image of metadata that can be saved says them again, key by key.
-use Rattle.std.proofs.Common.{◌≡◌, ◌≢◌, ℕ, zero, suc, ◌+◌, ◌<◌, ◌≤◌, ◌^◌, Bool, true, false, cond, ◌&&◌, ◌||◌, List, [], ◌∷◌, ◌++◌, map, Option, None, Some, IsSome, refl, sym, ap, subst, ◌∙◌, arith, inl, inr}
+use Rattle.std.proofs.Common.{◌≡◌, ◌≢◌, ℕ, zero, suc, ◌+◌, ◌<◌, ◌≤◌, ◌^◌, Bool, true, false, cond, ◌&&◌, ◌||◌, List, [], ◌∷◌, ◌++◌, map, Option, None, Some}
+use Rattle.std.proofs.Common.{is_some, IsSome, refl, sym, ap, subst, ◌∙◌, arith, inl, inr}
 use Rattle.std.specs.List.{list_all, list_any, AllByRecursion, flat_map}
 use Rattle.std.specs.Option.{option_map, option_or}
 use Rattle.std.specs.FinMap.Entries.{find}
@@ -30,12 +31,12 @@ use Rattle.wtf_image.specs.Kept.{IsKept, IsSameAs, IsPointerOrMemory}
 use Rattle.wtf_meta.specs.Maps.{metadata_at}
 use Rattle.wtf_imagefmt.proofs.Forms.{one_image}
 use Rattle.wtf_image.proofs.PlainLaws.{same_optional}
-use Rattle.wtf_model.specs.Tree.{is_in, is_at as stands_at}
+use Rattle.wtf_model.specs.Tree.{path_count, is_in, is_at as stands_at}
 use Rattle.wtf_path.specs.Parts.{parent_of, name_of}
 use Rattle.wtf_values.specs.Keys.{inode_cmp}
 use Rattle.wtf_values.specs.Names.{NamesOf, no_names, with_name, has_name, name_cmp}
 use Rattle.wtf_values.specs.declared.key.Key.{Key}
-use Rattle.wtf_values.specs.declared.key.Key.TheVariants.{Path, Dir, Inode, Region}
+use Rattle.wtf_values.specs.declared.key.Key.TheVariants.{Path, Dir, Inode, Region, Links}
 use Rattle.wtf_values.specs.declared.value.Node.{Node}
 use Rattle.wtf_values.specs.declared.value.Node.TheVariants.{Folder, File}
 use Rattle.wtf_values.proofs.KeyLaws.{inode_itself}
@@ -43,14 +44,16 @@ use Rattle.wtf_values.proofs.NameLaws.{same_names, has-none, has-with, same_name
 use Rattle.wtf_imagefmt.specs.declared.records.PathRecord.{PathRecord}
 use Rattle.wtf_imagefmt.specs.Rows.{RegionRow, FileRow, ImageRows}
 use Rattle.wtf_imagefmt.specs.Shapes.{ascends, file_before, IsImage}
-use Rattle.wtf_imagefmt.specs.Lookups.{Plain, NodeIs, NamesAre, LastIs, RegionIs, plain_region, node_at, place_cmp, region_entry, region_entries, region_at, added_name, names_from, names_under, names_of_node, row_at}
+use Rattle.wtf_imagefmt.specs.Lookups.{Plain, NodeIs, NamesAre, LastIs, RegionIs, CountIs, plain_region, node_at, last_at, times_named, count_row, place_cmp}
+use Rattle.wtf_imagefmt.specs.Lookups.{region_entry, region_entries, region_at, added_name, names_from, names_under, names_of_node, row_at}
 use Rattle.wtf_image.specs.Tables.{Shown, shown}
 use Rattle.wtf_imagefmt.specs.Saving.{node_now, last_now, region_now, with_one, regions_below, region_in, file_with, file_at, Says, header_of, IsSaveOf}
-use Rattle.wtf_image.specs.Savable.{IsNodeValue, IsLastValue, IsRegionValue, IsListingOf, IsSavable}
+use Rattle.wtf_image.specs.Savable.{IsNodeValue, IsLastValue, IsRegionValue, IsListingOf, HasNames, IsSavable}
+use Rattle.wtf_image.proofs.Counted.{inode_same, none_named, names_counted}
 use Rattle.wtf_image.proofs.SeedLaws.{find-both}
 use Rattle.wtf_imagefmt.proofs.Gathered.{region_numbered}
 use Rattle.wtf_image.proofs.SaveTree.{node_row, last_row, top_good, parents_good, recorded_good, paths_before_good, all_found, shown_node, tie_same, some_value}
-use Rattle.wtf_image.proofs.SaveFiles.{file_after, files_tail, inode_same, files_before_good, named_all, files_good}
+use Rattle.wtf_image.proofs.SaveFiles.{file_after, files_tail, files_before_good, named_all, files_good}
 
 -- ---- regions of one file among those of all
 
@@ -77,7 +80,8 @@ or_none : {A : Type 0} (o : Option A) → option_or o None ≡ o
 or_none None = refl
 or_none (Some x) = refl
 
-pub in_file : (i : InodeId) (r : ℕ) (fs : List FileRow) (f : FileRow) → ascends file_before fs ≡ true → file_at fs i ≡ Some f → region_at fs i r ≡ find place_cmp (i, r) (region_entries f)
+pub in_file : (i : InodeId) (r : ℕ) (fs : List FileRow) (f : FileRow) → ascends file_before fs ≡ true → file_at fs i ≡ Some f
+    → region_at fs i r ≡ find place_cmp (i, r) (region_entries f)
 in_file i r [] f h e = absurd (cc)
 in_file i r (g ∷ fs) f h e = elim (cases_Bool (is_eq (inode_cmp i g.inode))) [
   | inl tie ↦ (
@@ -116,16 +120,19 @@ module _ (i : InodeId) (now : ℕ → Option RegionRow) (numbered : (r : ℕ) (r
   abbrev found : List RegionRow → ℕ → Option RegionRow
   found rs r = find place_cmp (i, r) (map (region_entry i) rs)
 
-  pushed : (xs : List RegionRow) (row : RegionRow) (r : ℕ) → found (xs ++ row ∷ []) r ≡ option_or (found xs r) (cond (is_eq (nat_cmp r row.number)) (Some row) None)
+  pushed : (xs : List RegionRow) (row : RegionRow) (r : ℕ)
+      → found (xs ++ row ∷ []) r ≡ option_or (found xs r) (cond (is_eq (nat_cmp r row.number)) (Some row) None)
   pushed xs row r =
-      ap (find place_cmp (i, r)) (map-append (region_entry i) xs (row ∷ [])) ∙ find-both place_cmp (i, r) (map (region_entry i) xs) (map (region_entry i) (row ∷ []))
+      ap (find place_cmp (i, r)) (map-append (region_entry i) xs (row ∷ []))
+      ∙ find-both place_cmp (i, r) (map (region_entry i) xs) (map (region_entry i) (row ∷ []))
       ∙ ap (λ b. option_or (found xs r) (cond b (Some row) None)) (place_is i r row.number)
 
   found_other : (xs : List RegionRow) (n r : ℕ) (o : Option RegionRow) → now n ≡ o → r ≢ n → found (with_one xs o) r ≡ found xs r
   found_other xs n r None e off = refl
   found_other xs n r (Some row) e off =
       let number : row.number ≡ n = numbered n row e in
-      pushed xs row r ∙ ap (λ b. option_or (found xs r) (cond b (Some row) None)) (ap (λ k. is_eq (nat_cmp r k)) number ∙ number_off r n off) ∙ or_none (found xs r)
+      pushed xs row r ∙ ap (λ b. option_or (found xs r) (cond b (Some row) None)) (ap (λ k. is_eq (nat_cmp r k)) number ∙ number_off r n off)
+      ∙ or_none (found xs r)
 
   found_new : (xs : List RegionRow) (n : ℕ) (o : Option RegionRow) → now n ≡ o → found xs n ≡ None → found (with_one xs o) n ≡ o
   found_new xs n None e none = none
@@ -150,6 +157,7 @@ region_kind : (r : ℕ) (o : Option Plain) → IsRegionValue o → option_map pl
 region_kind r None h = refl
 region_kind r (Some (NodeIs n)) h = absurd h
 region_kind r (Some (NamesAre names)) h = absurd h
+region_kind r (Some (CountIs n)) h = absurd h
 region_kind r (Some (LastIs n)) h = absurd h
 region_kind r (Some (RegionIs end base entries)) h = refl
 
@@ -176,14 +184,14 @@ has_added_name d p s name = elim (cases_Bool (is_in d p)) [
   | inr t ↦ ap (λ b. has_name (cond b (with_name s (name_of p)) s) name) t ∙ sym (ap (λ b. (b && is_eq (name_cmp name (name_of p))) || has_name s name) t)
 ]
 
-has_names_from : (s : NamesOf) (d : List ℕ) (name : List ℕ) (rs : List PathRecord) → has_name (names_from s d rs) name ≡ (has_name s name || list_any (λ r. is_entry d name r.path) rs)
+has_names_from : (s : NamesOf) (d : List ℕ) (name : List ℕ) (rs : List PathRecord)
+    → has_name (names_from s d rs) name ≡ (has_name s name || list_any (λ r. is_entry d name r.path) rs)
 has_names_from s d name [] = or_false (has_name s name)
   where
     or_false : (b : Bool) → b ≡ (b || false)
     or_false true = refl
     or_false false = refl
-has_names_from s d name (r ∷ rs) =
-    has_names_from (added_name d r.path s) d name rs
+has_names_from s d name (r ∷ rs) = has_names_from (added_name d r.path s) d name rs
     ∙ ap (λ b. b || list_any (λ (r : PathRecord). is_entry d name r.path) rs) (has_added_name d r.path s name)
     ∙ sym (or_swap (is_entry d name r.path) (has_name s name) (list_any (λ (r : PathRecord). is_entry d name r.path) rs))
 
@@ -231,9 +239,11 @@ module _ (b next_tx : ℕ) (m : Shown) (savable : IsSavable b next_tx m) (x : Im
   region_some i r n e =
       let file : file_at x.files i ≡ Some (file_with m i n) = says.files i ∙ ap (λ o. option_map (file_with m i) (last_now o)) e in
       let numbered : (q : ℕ) (row : RegionRow) → region_in m i q ≡ Some row → row.number ≡ q = λ q row h. region_numbered q (m (Region i q)) row h in
-      let its : region_at x.files i r ≡ find place_cmp (i, r) (region_entries (file_with m i n)) = in_file i r x.files (file_with m i n) form.files.ascend file in
+      let its : region_at x.files i r ≡ find place_cmp (i, r) (region_entries (file_with m i n)) =
+      in_file i r x.files (file_with m i n) form.files.ascend file in
       elim (cases_lt r (n + 1)) [
-        | inl lt ↦ ap (option_map plain_region) (its ∙ below_found i (region_in m i) numbered (n + 1) r lt) ∙ region_kind r (m (Region i r)) (savable.regions i r)
+        | inl lt ↦ ap (option_map plain_region) (its ∙ below_found i (region_in m i) numbered (n + 1) r lt)
+            ∙ region_kind r (m (Region i r)) (savable.regions i r)
         | inr le ↦ ap (option_map plain_region) (its ∙ past_none i (region_in m i) numbered (n + 1) r le) ∙ sym (savable.above i n r e (omega arith))
       ]
 
@@ -241,6 +251,7 @@ module _ (b next_tx : ℕ) (m : Shown) (savable : IsSavable b next_tx m) (x : Im
   region_by i r None e h = region_none i r e
   region_by i r (Some (NodeIs n)) e h = absurd h
   region_by i r (Some (NamesAre names)) e h = absurd h
+  region_by i r (Some (CountIs n)) e h = absurd h
   region_by i r (Some (LastIs n)) e h = region_some i r n e
   region_by i r (Some (RegionIs end base entries)) e h = absurd h
 
@@ -250,17 +261,21 @@ module _ (b next_tx : ℕ) (m : Shown) (savable : IsSavable b next_tx m) (x : Im
   some_node p None e h there = absurd (cc)
   some_node p (Some (NodeIs n)) e h there = (n, says.paths p ∙ ap node_now e)
   some_node p (Some (NamesAre names)) e h there = absurd h
+  some_node p (Some (CountIs n)) e h there = absurd h
   some_node p (Some (LastIs n)) e h there = absurd h
   some_node p (Some (RegionIs end base entries)) e h there = absurd h
 
-  listed_entry : (d : List ℕ) (names : NamesOf) → IsListingOf m d names → (name : List ℕ) → has_name names name ≡ true → list_any (λ r. is_entry d name r.path) x.paths ≡ true
+  listed_entry : (d : List ℕ) (names : NamesOf) → IsListingOf m d names → (name : List ℕ) → has_name names name ≡ true
+      → list_any (λ r. is_entry d name r.path) x.paths ≡ true
   listed_entry d names listing name h =
       let w = listing.only name h in
       let at = some_node w.0 (m (Path w.0)) refl (savable.nodes w.0) w.3 in
-      let test : is_entry d name w.0 ≡ true = ap (λ t. t && is_eq (name_cmp name (name_of w.0))) (in_stands d (parent_of w.0) w.1) ∙ ap (λ k. is_eq (name_cmp name k)) w.2 ∙ ap is_eq (name_itself name) in
+      let test : is_entry d name w.0 ≡ true = ap (λ t. t && is_eq (name_cmp name (name_of w.0))) (in_stands d (parent_of w.0) w.1)
+      ∙ ap (λ k. is_eq (name_cmp name k)) w.2 ∙ ap is_eq (name_itself name) in
       any_found (is_entry d name) w.0 at.0 x.paths at.1 test
 
-  entry_listed : (d : List ℕ) (names : NamesOf) → IsListingOf m d names → (name : List ℕ) (rs : List PathRecord) → AllByRecursion (λ r. node_at x.paths r.path ≡ Some r.node) rs
+  entry_listed : (d : List ℕ) (names : NamesOf) → IsListingOf m d names → (name : List ℕ) (rs : List PathRecord)
+      → AllByRecursion (λ r. node_at x.paths r.path ≡ Some r.node) rs
       → list_any (λ r. is_entry d name r.path) rs ≡ true → has_name names name ≡ true
   entry_listed d names listing name [] all h = absurd (cc)
   entry_listed d names listing name (r ∷ rs) all h = elim (cases_Bool (is_entry d name r.path)) [
@@ -294,12 +309,40 @@ module _ (b next_tx : ℕ) (m : Shown) (savable : IsSavable b next_tx m) (x : Im
       ap (λ s. Some (NamesAre s)) (names_are p listing.names listing.listing) ∙ sym listing.value
   names_by p (Some (File i)) e = sym (savable.no_names p (not_folder p (File i) e (λ same. absurd (cc))))
 
+  -- ---- numbers of paths
+
+  -- no path names an inode that has no record
+  none_leads : (i : InodeId) → m (Inode i) ≡ None → is_some (last_at x.files i) ≡ false
+  none_leads i e = sym (mapped (last_at x.files i)) ∙ ap is_some (last_row b next_tx m savable x form says i) ∙ ap is_some e
+    where
+      mapped : (o : Option ℕ) → is_some (option_map LastIs o) ≡ is_some o
+      mapped None = refl
+      mapped (Some n) = refl
+
+  count_none : (i : InodeId) → m (Inode i) ≡ None → count_row (times_named x.paths i) ≡ m (Links i)
+  count_none i e =
+      let none : times_named x.paths i ≡ 0 = none_named x.files i x.paths (recorded_good b next_tx m savable x form says) (none_leads i e) in
+      let gone : m (Links i) ≡ None = not_some (m (Links i)) (λ here. none_some (m (Inode i)) e (savable.counted i here)) in
+      ap count_row none ∙ sym gone
+
+  count_some : (i : InodeId) → HasNames m i → count_row (times_named x.paths i) ≡ m (Links i)
+  count_some i names =
+      let times : times_named x.paths i ≡ path_count names.paths = names_counted i x.paths names.paths form.paths.ascend
+      (λ p has. says.paths p ∙ ap node_now (names.lead p has))
+      (λ p e. names.all p (shown_node b next_tx m savable x form says p (File i) e)) in
+      ap count_row times ∙ sym names.count
+
+  count_by : (i : InodeId) (o : Option Plain) → m (Inode i) ≡ o → count_row (times_named x.paths i) ≡ m (Links i)
+  count_by i None e = count_none i e
+  count_by i (Some s) e = count_some i (savable.named i (some_value (m (Inode i)) s e))
+
   -- what the image says of each key is what the metadata have
   pub says_all : (q : Key) → row_at x q ≡ m q
   says_all (Path p) = node_row b next_tx m savable x form says p
   says_all (Dir p) = names_by p (node_at x.paths p) refl
   says_all (Inode i) = last_row b next_tx m savable x form says i
   says_all (Region i r) = region_by i r (m (Inode i)) refl (savable.lasts i)
+  says_all (Links i) = count_by i (m (Inode i)) refl
 
 -- the image of a store of such metadata breaks no rule of settings or of the tree, and says just what the store has
 pub is_kept : (kv : Store Key Value) (s : Settings) (next_tx : ℕ) (bytes : List ℕ) → IsSaveOf kv s next_tx bytes → AreSettings s.servers s.replicas s.region
@@ -327,7 +370,7 @@ is_kept kv s next_tx bytes save limits number last savable =
       tree = record {
         top = top_good s.region next_tx m savable x form says;
         parents = parents_good s.region next_tx m savable x form says;
-        named = named_all s.region next_tx m savable x form says;
+        named = named_all s.region next_tx m savable x form says save.version;
         recorded = recorded_good s.region next_tx m savable x form says;
         files = subst (λ c. list_all (is_good_file c) x.files ≡ true) region (files_good s.region next_tx m savable x form says);
       };
@@ -338,10 +381,12 @@ is_kept kv s next_tx bytes save limits number last savable =
 pub reads_back : (kv : Store Key Value) (s : Settings) (next_tx : ℕ) (bytes : List ℕ) (lost : ℕ → Bool) (size : ℕ → ℕ → ℕ) (l : Loaded)
     → IsKept kv s next_tx bytes → IsLoadWithout lost size bytes l → IsSameAs kv s next_tx l
 reads_back kv s next_tx bytes lost size l kept load =
-    let same : kept.rows ≡ load.rows = (one_image kept.rows load.rows [] kept.text.shape load.taken.text.shape (sym load.taken.text.text ∙ kept.text.text ∙ sym (append-nil (image_text kept.rows)))).0 in
+    let same : kept.rows ≡ load.rows = (one_image kept.rows load.rows [] kept.text.shape load.taken.text.shape
+    (sym load.taken.text.text ∙ kept.text.text ∙ sym (append-nil (image_text kept.rows)))).0 in
     let header : load.rows.header ≡ header_of s kv.number next_tx = sym (ap (λ (x : ImageRows). x.header) same) ∙ kept.header in
     let each : (q : Key) → metadata_at l.kv l.kv.number q ≡ metadata_at kv kv.number q = λ q.
-    same_optional (metadata_at l.kv l.kv.number q) (metadata_at kv kv.number q) (load.store.map q ∙ sym (ap (λ (x : ImageRows). row_at x q) same) ∙ kept.map q) in
+    same_optional (metadata_at l.kv l.kv.number q) (metadata_at kv kv.number q)
+    (load.store.map q ∙ sym (ap (λ (x : ImageRows). row_at x q) same) ∙ kept.map q) in
     record {
       number = load.store.number ∙ ap (λ (h : Header). h.installs) header;
       pins = load.store.pins;
@@ -357,10 +402,12 @@ pub refused_only : (kv : Store Key Value) (s : Settings) (next_tx : ℕ) (bytes 
     → IsKept kv s next_tx bytes → IsRefusalWithout lost size bytes why → IsPointerOrMemory why
 refused_only kv s next_tx bytes lost size error.NotAnImage kept refusal = absurd (refusal kept.rows kept.text)
 refused_only kv s next_tx bytes lost size error.BadSettings kept refusal =
-    let same : kept.rows ≡ refusal.rows = (one_image kept.rows refusal.rows [] kept.text.shape refusal.text.shape (sym refusal.text.text ∙ kept.text.text ∙ sym (append-nil (image_text kept.rows)))).0 in
+    let same : kept.rows ≡ refusal.rows = (one_image kept.rows refusal.rows [] kept.text.shape refusal.text.shape
+    (sym refusal.text.text ∙ kept.text.text ∙ sym (append-nil (image_text kept.rows)))).0 in
     absurd (refusal.bad (subst AreGoodSettings same kept.good))
 refused_only kv s next_tx bytes lost size error.BadTree kept refusal =
-    let same : kept.rows ≡ refusal.rows = (one_image kept.rows refusal.rows [] kept.text.shape refusal.text.shape (sym refusal.text.text ∙ kept.text.text ∙ sym (append-nil (image_text kept.rows)))).0 in
+    let same : kept.rows ≡ refusal.rows = (one_image kept.rows refusal.rows [] kept.text.shape refusal.text.shape
+    (sym refusal.text.text ∙ kept.text.text ∙ sym (append-nil (image_text kept.rows)))).0 in
     absurd (refusal.bad (subst IsGoodTree same kept.tree))
 refused_only kv s next_tx bytes lost size error.PointerOutside kept refusal = tt
 refused_only kv s next_tx bytes lost size error.Memory kept refusal = tt

@@ -16,7 +16,7 @@ use Rattle.wtf_values.proofs.KeyLaws.{at_itself, at_same}
 use Rattle.wtf_imagefmt.specs.declared.records.PathRecord.{PathRecord}
 use Rattle.wtf_imagefmt.specs.Rows.{FileRow, ImageRows}
 use Rattle.wtf_imagefmt.specs.Shapes.{ascends, ascends_from, path_before, IsImage}
-use Rattle.wtf_imagefmt.specs.Lookups.{Plain, NodeIs, NamesAre, LastIs, RegionIs, node_at, last_at}
+use Rattle.wtf_imagefmt.specs.Lookups.{Plain, NodeIs, NamesAre, LastIs, RegionIs, CountIs, node_at, last_at}
 use Rattle.wtf_image.specs.Rules.{is_folder, is_in_folder, has_parent, is_recorded_node, is_recorded, is_node_before}
 use Rattle.wtf_image.specs.Tables.{Shown}
 use Rattle.wtf_imagefmt.specs.Saving.{node_now, last_now, file_with, file_at, Says}
@@ -41,9 +41,11 @@ pub tie_same : (p q : List ℕ) → is_eq (slice_cmp nat_cmp p q) ≡ true → p
 tie_same p q h = let same : Path p ≡ Path q = at_same (Path p) (Path q) h in cc
 
 -- where the front does not have a path, what stands there is told by the rest
-found_in : (r : PathRecord) (rs : List PathRecord) (p : List ℕ) (n : Node) → ascends_from path_before r rs ≡ true → node_at rs p ≡ Some n → node_at (r ∷ rs) p ≡ Some n
+found_in : (r : PathRecord) (rs : List PathRecord) (p : List ℕ) (n : Node) → ascends_from path_before r rs ≡ true → node_at rs p ≡ Some n
+    → node_at (r ∷ rs) p ≡ Some n
 found_in r rs p n h e = elim (cases_Bool (is_eq (slice_cmp nat_cmp p r.path))) [
-  | inl tie ↦ (let none : node_at rs p ≡ None = ap (node_at rs) (tie_same p r.path tie) ∙ missing_after r rs h in let bad : None ≡ Some n = sym none ∙ e in absurd (cc))
+  | inl tie ↦ (let none : node_at rs p ≡ None = ap (node_at rs) (tie_same p r.path tie) ∙ missing_after r rs h in
+      let bad : None ≡ Some n = sym none ∙ e in absurd (cc))
   | inr off ↦ ap (λ b. cond b (Some r.node) (node_at rs p)) off ∙ e
 ]
 
@@ -51,7 +53,8 @@ pub each_found : (rs : List PathRecord) → ascends path_before rs ≡ true → 
 each_found [] h = tt
 each_found (r ∷ rs) h = (
   ap (λ b. cond b (Some r.node) (node_at rs r.path)) (tie_itself r.path),
-  all_weaker (λ s. node_at rs s.path ≡ Some s.node) (λ s. node_at (r ∷ rs) s.path ≡ Some s.node) (λ s e. found_in r rs s.path s.node h e) rs (each_found rs (tail_ascends r rs h)),
+  all_weaker (λ s. node_at rs s.path ≡ Some s.node) (λ s. node_at (r ∷ rs) s.path ≡ Some s.node) (λ s e. found_in r rs s.path s.node h e) rs
+      (each_found rs (tail_ascends r rs h)),
 )
 
 -- ---- values of their kinds
@@ -60,6 +63,7 @@ node_kind : (o : Option Plain) → IsNodeValue o → option_map NodeIs (node_now
 node_kind None h = refl
 node_kind (Some (NodeIs n)) h = refl
 node_kind (Some (NamesAre names)) h = absurd h
+node_kind (Some (CountIs n)) h = absurd h
 node_kind (Some (LastIs n)) h = absurd h
 node_kind (Some (RegionIs end base entries)) h = absurd h
 
@@ -67,6 +71,7 @@ last_kind : (o : Option Plain) → IsLastValue o → option_map LastIs (last_now
 last_kind None h = refl
 last_kind (Some (NodeIs n)) h = absurd h
 last_kind (Some (NamesAre names)) h = absurd h
+last_kind (Some (CountIs n)) h = absurd h
 last_kind (Some (LastIs n)) h = refl
 last_kind (Some (RegionIs end base entries)) h = absurd h
 
@@ -78,7 +83,8 @@ some_value o x e = subst (λ o. IsSome o) (sym e) refl
 -- the last of a file is told by its row
 pub last_is : (fs : List FileRow) (i : InodeId) → last_at fs i ≡ option_map (λ f. f.last) (file_at fs i)
 last_is [] i = refl
-last_is (f ∷ fs) i = elim (eq_by_cmp inode_cmp i f.inode) as (λ b. cond b (Some f.last) (last_at fs i) ≡ option_map (λ (f : FileRow). f.last) (cond b (Some f) (file_at fs i))) [ true ↦ refl | false ↦ last_is fs i ]
+last_is (f ∷ fs) i = elim (eq_by_cmp inode_cmp i f.inode) as
+    (λ b. cond b (Some f.last) (last_at fs i) ≡ option_map (λ (f : FileRow). f.last) (cond b (Some f) (file_at fs i))) [ true ↦ refl | false ↦ last_is fs i ]
 
 last_of_file : (m : Shown) (i : InodeId) (o : Option ℕ) → option_map (λ (f : FileRow). f.last) (option_map (file_with m i) o) ≡ o
 last_of_file m i None = refl
@@ -112,7 +118,8 @@ module _ (b next_tx : ℕ) (m : Shown) (savable : IsSavable b next_tx m) (x : Im
   all_found = each_found x.paths form.paths.ascend
 
   pub parents_good : list_all (has_parent x.paths) x.paths ≡ true
-  parents_good = all_from (has_parent x.paths) x.paths (all_weaker (λ r. node_at x.paths r.path ≡ Some r.node) (λ r. has_parent x.paths r ≡ true) parent_good x.paths all_found)
+  parents_good = all_from (has_parent x.paths) x.paths
+      (all_weaker (λ r. node_at x.paths r.path ≡ Some r.node) (λ r. has_parent x.paths r ≡ true) parent_good x.paths all_found)
 
   is_some-from : {A : Type 0} (o : Option A) → IsSome o → is_some o ≡ true
   is_some-from None h = absurd (cc)
@@ -130,7 +137,9 @@ module _ (b next_tx : ℕ) (m : Shown) (savable : IsSavable b next_tx m) (x : Im
   node_recorded p (File i) e = some_last i ∙ is_some-from (m (Inode i)) (savable.recorded p i e)
 
   pub recorded_good : list_all (is_recorded x.files) x.paths ≡ true
-  recorded_good = all_from (is_recorded x.files) x.paths (all_weaker (λ r. node_at x.paths r.path ≡ Some r.node) (λ r. is_recorded x.files r ≡ true) (λ r e. node_recorded r.path r.node (shown_node r.path r.node e)) x.paths all_found)
+  recorded_good = all_from (is_recorded x.files) x.paths
+      (all_weaker (λ r. node_at x.paths r.path ≡ Some r.node) (λ r. is_recorded x.files r ≡ true)
+      (λ r e. node_recorded r.path r.node (shown_node r.path r.node e)) x.paths all_found)
 
   pub top_good : is_folder (node_at x.paths root) ≡ true
   top_good = folder_at root savable.top
@@ -140,4 +149,6 @@ module _ (b next_tx : ℕ) (m : Shown) (savable : IsSavable b next_tx m) (x : Im
   node_good p (File i) e = lt-ltb _ _ (savable.before i (savable.recorded p i e))
 
   pub paths_before_good : list_all (λ r. is_node_before next_tx r.node) x.paths ≡ true
-  paths_before_good = all_from (λ (r : PathRecord). is_node_before next_tx r.node) x.paths (all_weaker (λ r. node_at x.paths r.path ≡ Some r.node) (λ r. is_node_before next_tx r.node ≡ true) (λ r e. node_good r.path r.node (shown_node r.path r.node e)) x.paths all_found)
+  paths_before_good = all_from (λ (r : PathRecord). is_node_before next_tx r.node) x.paths
+      (all_weaker (λ r. node_at x.paths r.path ≡ Some r.node) (λ r. is_node_before next_tx r.node ≡ true)
+      (λ r e. node_good r.path r.node (shown_node r.path r.node e)) x.paths all_found)

@@ -1,5 +1,6 @@
 -- Seeds of a store, one after another.
-use Rattle.std.proofs.Common.{◌≡◌, ℕ, zero, suc, ◌+◌, ◌<◌, Bool, true, false, cond, ◌&&◌, List, [], ◌∷◌, ◌++◌, length, take, map, get_or, Option, None, Some, refl, sym, ap, subst, ◌∙◌, arith, ⊎_elim}
+use Rattle.std.proofs.Common.{◌≡◌, ℕ, zero, suc, ◌+◌, ◌<◌, Bool, true, false, cond, ◌&&◌, List, [], ◌∷◌, ◌++◌, length, take, map, get_or, Option, None, Some}
+use Rattle.std.proofs.Common.{refl, sym, ap, subst, ◌∙◌, arith, ⊎_elim}
 use Rattle.std.specs.List.{flat_map}
 use Rattle.std.specs.Option.{option_or}
 use Rattle.std.specs.BTreeMap.{is_at}
@@ -27,7 +28,8 @@ S = Store Key Value
 pub find-both : {K X : Type 0} (R : K → K → Ordering) (q : K) (es fs : List (K × X)) → find R q (es ++ fs) ≡ option_or (find R q es) (find R q fs)
 find-both R q [] fs = refl
 find-both {K} {X} R q (e ∷ es) fs =
-    elim (eq_by_cmp R q e.0) as (λ b. cond b (Some e.1) (find R q (es ++ fs)) ≡ option_or (cond b (Some e.1) (find R q es)) (find R q fs)) [ true ↦ refl | false ↦ find-both R q es fs ]
+    elim (eq_by_cmp R q e.0) as (λ b. cond b (Some e.1) (find R q (es ++ fs)) ≡ option_or (cond b (Some e.1) (find R q es)) (find R q fs))
+    [ true ↦ refl | false ↦ find-both R q es fs ]
 
 -- a key that ties with another is that key
 tied : (q k : Key) (v : Plain) (s : Plain) → cond (is_at (key_cmp q) k) (Some v) None ≡ Some s → (q ≡ k) × (v ≡ s)
@@ -44,7 +46,8 @@ untied q k v h = ⊎_elim
 
 -- one key with its first value
 pub adds_one : (old new : S) (k : Key) (v : Value) → new.number ≡ old.number → new.pins ≡ []
-    → ((q : Key) → versions_of key_cmp new q ≡ cond (is_at (key_cmp k) q) ((old.number, Some v) ∷ []) (versions_of key_cmp old q)) → Adds old new ((k, plain v) ∷ [])
+    → ((q : Key) → versions_of key_cmp new q ≡ cond (is_at (key_cmp k) q) ((old.number, Some v) ∷ []) (versions_of key_cmp old q))
+    → Adds old new ((k, plain v) ∷ [])
 adds_one old new k v number pins is = record {
   number = number;
   pins = pins;
@@ -52,11 +55,16 @@ adds_one old new k v number pins is = record {
       let t = tied q k (plain v) s found in
       record {
         value = v;
-        version = is q ∙ ap (λ b. cond b ((old.number, Some v) ∷ []) (versions_of key_cmp old q)) (subst (λ x. is_at (key_cmp k) x ≡ true) (sym t.0) (at_itself k));
+        version = is q ∙ ap (λ b. cond b ((old.number, Some v) ∷ []) (versions_of key_cmp old q))
+            (subst (λ x. is_at (key_cmp k) x ≡ true) (sym t.0) (at_itself k));
         is = t.1;
       };
   others = λ q missing. is q ∙ ap (λ b. cond b ((old.number, Some v) ∷ []) (versions_of key_cmp old q)) (untied q k (plain v) missing);
 }
+
+-- no key
+pub adds_none : (kv : S) → kv.pins ≡ [] → Adds kv kv []
+adds_none kv pins = record { number = refl; pins = pins; seeded = λ q s found. absurd (cc); others = λ q missing. refl }
 
 none_both : {X : Type 0} (a b : Option X) → option_or a b ≡ None → (a ≡ None) × (b ≡ None)
 none_both None b h = (refl, h)
@@ -67,11 +75,13 @@ not_both a None y e apart = refl
 not_both a (Some z) y e apart = let none : a ≡ None = apart z refl in absurd (cc)
 
 -- seeds and then others, of other keys
-module _ (a b c : S) (s t : List Seed) (one : Adds a b s) (two : Adds b c t) (apart : (q : Key) (z : Plain) → find key_cmp q t ≡ Some z → find key_cmp q s ≡ None) where
+module _ (a b c : S) (s t : List Seed) (one : Adds a b s) (two : Adds b c t)
+    (apart : (q : Key) (z : Plain) → find key_cmp q t ≡ Some z → find key_cmp q s ≡ None) where
   then_others : (q : Key) → find key_cmp q (s ++ t) ≡ None → versions_of key_cmp c q ≡ versions_of key_cmp a q
   then_others q h = let both = none_both _ _ (sym (find-both key_cmp q s t) ∙ h) in two.others q both.1 ∙ one.others q both.0
 
-  then_seeded : (q : Key) (x : Plain) (o : Option Plain) → find key_cmp q s ≡ o → option_or o (find key_cmp q t) ≡ Some x → IsOnly a.number (versions_of key_cmp c q) x
+  then_seeded : (q : Key) (x : Plain) (o : Option Plain) → find key_cmp q s ≡ o → option_or o (find key_cmp q t) ≡ Some x
+      → IsOnly a.number (versions_of key_cmp c q) x
   then_seeded q x (Some y) e h =
       let first = one.seeded q x (e ∙ h) in
       let same = two.others q (not_both (find key_cmp q s) (find key_cmp q t) y e (apart q)) in
@@ -120,7 +130,8 @@ module _ {A : Type 0} (g : A → List Seed) where
     tail_ascends x [] h = refl
     tail_ascends x (y ∷ ys) h = (and_both _ _ h).1
 
-    pub not_before : (xs : List A) (i : ℕ) (x : A) (q : Key) → ascends before xs ≡ true → i < length xs → x ≡ get_or xs i x → Owns x q → find key_cmp q (flat_map g (take i xs)) ≡ None
+    pub not_before : (xs : List A) (i : ℕ) (x : A) (q : Key) → ascends before xs ≡ true → i < length xs → x ≡ get_or xs i x → Owns x q
+        → find key_cmp q (flat_map g (take i xs)) ≡ None
     not_before [] i x q h lt is owns = absurd (omega arith)
     not_before (w ∷ ys) zero x q h lt is owns = refl
     not_before (w ∷ ys) (suc j) x q h lt is owns =

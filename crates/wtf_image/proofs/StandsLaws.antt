@@ -1,10 +1,11 @@
 -- Metadata that stand for a tree can be saved.
-use Rattle.std.proofs.Common.{◌≡◌, ℕ, ◌<◌, ◌≤◌, List, Option, None, Some, IsSome, refl, sym, ap, subst, ◌∙◌, arith}
+use Rattle.std.proofs.Common.{◌≡◌, ℕ, ◌<◌, ◌≤◌, nat_le, ◌^◌, true, false, cond, List, length, Option, None, Some, is_some, IsSome, refl, sym, ap, subst, ◌∙◌}
+use Rattle.std.proofs.Common.{arith}
 use Rattle.std.specs.Option.{option_map}
-use Rattle.std.specs.FinMap.{get}
+use Rattle.std.specs.FinMap.{get, len}
 use Rattle.wtf_base.specs.declared.ids.InodeId.{InodeId}
-use Rattle.wtf_model.specs.Tree.{Tree, TreeNode, Dir, File, root}
-use Rattle.wtf_values.specs.declared.key.Key.TheVariants.{Path, Dir as DirKey, Inode, Region}
+use Rattle.wtf_model.specs.Tree.{path_count, Tree, TreeNode, Dir, File, root}
+use Rattle.wtf_values.specs.declared.key.Key.TheVariants.{Path, Dir as DirKey, Inode, Region, Links}
 use Rattle.wtf_values.specs.declared.value.Node.{Node}
 use Rattle.wtf_values.specs.declared.value.Node.TheVariants.{Folder, File as FileNode}
 use Rattle.wtf_values.specs.declared.value.Value.{Value}
@@ -13,12 +14,14 @@ use Rattle.wtf_meta.specs.Maps.{Map}
 use Rattle.wtf_meta.specs.Contents.{Told}
 use Rattle.wtf_meta.specs.Files.{end_of}
 use Rattle.wtf_meta.specs.FileEdits.{last_of, region_of, IsLast, IsRegion}
-use Rattle.wtf_meta.specs.Trees.{IsBody, NodeAt, Stands}
+use Rattle.wtf_meta.specs.Trees.{IsBody, count_of, NodeAt, Stands}
 use Rattle.wtf_meta.proofs.Nodes.{node-folder, names-listed, names-missing}
-use Rattle.wtf_meta.proofs.Standing.{leads-file}
-use Rattle.wtf_imagefmt.specs.Lookups.{NodeIs, LastIs, plain}
+use Rattle.wtf_meta.proofs.Standing.{last_some, leads-file}
+use Rattle.wtf_imagefmt.specs.Lookups.{NodeIs, LastIs, CountIs, plain, count_row, node_at}
+use Rattle.wtf_image.specs.Pictured.{IsImageOfTree}
 use Rattle.wtf_image.specs.Tables.{Shown}
-use Rattle.wtf_image.specs.Savable.{IsNodeValue, IsLastValue, IsRegionValue, end_now, HasListing, IsSavable}
+use Rattle.wtf_image.proofs.Counted.{paths_few}
+use Rattle.wtf_image.specs.Savable.{IsNodeValue, IsLastValue, IsRegionValue, end_now, HasListing, HasNames, IsSavable}
 
 -- ---- values, with and without where they lie
 
@@ -26,6 +29,7 @@ node_back : (v : Option Value) (n : Node) → option_map plain v ≡ Some (NodeI
 node_back None n e = absurd (cc)
 node_back (Some (value.Node k)) n e = let is : k ≡ n = cc in ap (λ (x : Node). Some (value.Node x)) is
 node_back (Some (value.Names s)) n e = absurd (cc)
+node_back (Some (value.Count c)) n e = absurd (cc)
 node_back (Some (value.Last r)) n e = absurd (cc)
 node_back (Some (value.Region g)) n e = absurd (cc)
 
@@ -33,6 +37,7 @@ last_back : (v : Option Value) (n : ℕ) → option_map plain v ≡ Some (LastIs
 last_back None n e = absurd (cc)
 last_back (Some (value.Node k)) n e = absurd (cc)
 last_back (Some (value.Names s)) n e = absurd (cc)
+last_back (Some (value.Count c)) n e = absurd (cc)
 last_back (Some (value.Last r)) n e = let is : r ≡ n = cc in ap (λ (x : ℕ). Some (value.Last x)) is
 last_back (Some (value.Region g)) n e = absurd (cc)
 
@@ -51,17 +56,15 @@ last_value : (v : Option Value) → (IsSome v → IsLast v) → IsLastValue (opt
 last_value None h = tt
 last_value (Some (value.Node k)) h = absurd (h refl)
 last_value (Some (value.Names s)) h = absurd (h refl)
+last_value (Some (value.Count n)) h = absurd (h refl)
 last_value (Some (value.Last r)) h = tt
 last_value (Some (value.Region g)) h = absurd (h refl)
-
-last_some : (v : Option Value) → IsLast v → IsSome v
-last_some None h = absurd h
-last_some (Some v) h = refl
 
 region_value : (v : Option Value) → (IsSome v → IsRegion v) → IsRegionValue (option_map plain v)
 region_value None h = tt
 region_value (Some (value.Node k)) h = absurd (h refl)
 region_value (Some (value.Names s)) h = absurd (h refl)
+region_value (Some (value.Count n)) h = absurd (h refl)
 region_value (Some (value.Last r)) h = absurd (h refl)
 region_value (Some (value.Region g)) h = tt
 
@@ -69,6 +72,7 @@ end_is : (v : Option Value) → end_now (option_map plain v) ≡ end_of (region_
 end_is None = refl
 end_is (Some (value.Node k)) = refl
 end_is (Some (value.Names s)) = refl
+end_is (Some (value.Count n)) = refl
 end_is (Some (value.Last r)) = refl
 end_is (Some (value.Region g)) = refl
 
@@ -76,8 +80,13 @@ no_region : (v : Option Value) → IsRegion v → region_of v ≡ None → v ≡
 no_region None h e = refl
 no_region (Some (value.Node k)) h e = absurd h
 no_region (Some (value.Names s)) h e = absurd h
+no_region (Some (value.Count n)) h e = absurd h
 no_region (Some (value.Last r)) h e = absurd h
 no_region (Some (value.Region g)) h e = absurd (cc)
+
+count_plain : (n : ℕ) → option_map plain (count_of n) ≡ count_row n
+count_plain n = elim (nat_le 2 n) as (λ b. option_map plain (cond b (Some (value.Count n)) None) ≡ cond b (Some (CountIs n)) None)
+    [ true ↦ refl | false ↦ refl ]
 
 -- ---- what stands at paths
 
@@ -86,6 +95,7 @@ module _ (b : ℕ) (told : Told) (w : Map) where
   node_value None o at = tt
   node_value (Some (value.Node n)) o at = tt
   node_value (Some (value.Names s)) o at = absurd at
+  node_value (Some (value.Count n)) o at = absurd at
   node_value (Some (value.Last r)) o at = absurd at
   node_value (Some (value.Region g)) o at = absurd at
 
@@ -98,6 +108,7 @@ module _ (b : ℕ) (told : Told) (w : Map) where
   folder_node (Some (value.Node (FileNode i))) (Some Dir) at e = absurd at
   folder_node (Some (value.Node (FileNode i))) (Some (File paths bytes)) at e = absurd (cc)
   folder_node (Some (value.Names s)) o at e = absurd at
+  folder_node (Some (value.Count n)) o at e = absurd at
   folder_node (Some (value.Last r)) o at e = absurd at
   folder_node (Some (value.Region g)) o at e = absurd at
 
@@ -107,6 +118,7 @@ module _ (b : ℕ) (told : Told) (w : Map) where
   stands_there (Some (value.Node (FileNode i))) None at h = absurd at
   stands_there (Some v) (Some n) at h = refl
   stands_there (Some (value.Names s)) None at h = absurd at
+  stands_there (Some (value.Count n)) None at h = absurd at
   stands_there (Some (value.Last r)) None at h = absurd at
   stands_there (Some (value.Region g)) None at h = absurd at
 
@@ -124,6 +136,18 @@ module _ (b : ℕ) (told : Told) (tx k : ℕ) (w : Map) (t : Tree) (st : Stands 
   -- the file of an inode that has a record
   file_is : (i : InodeId) → IsSome (w (Inode i)) → (bytes : List ℕ) × IsBody b told w i bytes
   file_is i some = let led = st.led i some in let at = leads-file b told tx k w t st led.0 i led.1 in (at.bytes, at.body)
+
+  -- the paths that lead to it
+  names_there : (i : InodeId) → IsSome (w (Inode i)) → HasNames m i
+  names_there i some =
+      let led = st.led i some in
+      let at = leads-file b told tx k w t st led.0 i led.1 in
+      record {
+        paths = at.paths;
+        lead = λ p has. ap (option_map plain) (at.file.lead p has);
+        all = λ p leads. at.file.all p (node_back (w (Path p)) (FileNode i) leads);
+        count = ap (option_map plain) at.file.count ∙ count_plain (path_count at.paths);
+      }
 
   in_tree : (p : List ℕ) → IsSome (m (Path p)) → IsSome (get t p)
   in_tree p h = stands_there b told w (w (Path p)) (get t p) (st.nodes p) (some_back (w (Path p)) h)
@@ -183,9 +207,11 @@ module _ (b : ℕ) (told : Told) (tx k : ℕ) (w : Map) (t : Tree) (st : Stands 
     parents = λ p dir some parent. folder_there dir (st.tree_is.parents p dir (in_tree p some) parent);
     folders = listing_there;
     no_names = λ p off. ap (option_map plain) (names-missing t p (w (DirKey p)) (get t p) (st.names p) (λ dir. off (folder_there p dir)));
-    apart = λ p q i first second. st.apart p q i (node_back (w (Path p)) (FileNode i) first) (node_back (w (Path q)) (FileNode i) second);
+    named = λ i some. names_there i (some_back (w (Inode i)) some);
     led = λ i some. let led = st.led i (some_back (w (Inode i)) some) in (led.0, ap (option_map plain) led.1);
-    recorded = λ p i leads. some_forth (w (Inode i)) (last_some (w (Inode i)) (leads-file b told tx k w t st p i (node_back (w (Path p)) (FileNode i) leads)).body.has.inode);
+    recorded = λ p i leads. some_forth (w (Inode i)) (last_some (w (Inode i))
+        (leads-file b told tx k w t st p i (node_back (w (Path p)) (FileNode i) leads)).body.has.inode);
+    counted = λ i some. some_forth (w (Inode i)) (st.counted i (some_back (w (Links i)) some));
     before = λ i some. before i (some_back (w (Inode i)) some);
     owned = λ i r some. some_forth (w (Inode i)) (st.regions i r (some_back (w (Region i r)) some));
     few = few_there;
@@ -193,3 +219,29 @@ module _ (b : ℕ) (told : Told) (tx k : ℕ) (w : Map) (t : Tree) (st : Stands 
     above = above_there;
     bytes = bytes_there;
   }
+
+-- ---- how many paths a tree has that an image stands for
+
+some_plain : (v : Option Value) → IsSome v → is_some (option_map plain v) ≡ true
+some_plain None h = absurd (cc)
+some_plain (Some v) h = refl
+
+node_some : (o : Option Node) → is_some (option_map NodeIs o) ≡ is_some o
+node_some None = refl
+node_some (Some n) = refl
+
+is_there : (o : Option TreeNode) → is_some o ≡ true → IsSome o
+is_there None h = absurd (cc)
+is_there (Some n) h = refl
+
+pub stands_few : (told : Told) (bytes : List ℕ) (t : Tree) → IsImageOfTree told bytes t → len t < 2 ^ 32
+stands_few told bytes t image =
+    let x = image.rows in
+    let w = image.map in
+    let b = x.header.region in
+    let st = image.stands x.header.next_tx (omega arith) in
+    let paths = image.text.shape.paths in
+    let few : len t ≤ length x.paths = paths_few x.paths t paths.ascend (λ p has.
+    sym (node_some (node_at x.paths p)) ∙ ap is_some (sym (image.says (Path p)))
+    ∙ some_plain (w (Path p)) (told_there b told w (w (Path p)) (get t p) (st.nodes p) (is_there (get t p) has))) in
+    omega (arith, few, paths.count)

@@ -1,5 +1,5 @@
 -- The rules of a tree, tried by what a store shows.
-use Rattle.std.proofs.Common.{◌≡◌, ℕ, Bool, true, false, List, [], ◌∷◌, Option, None, Some, is_some, refl, sym, ap, ◌∙◌, eqb, ◌&&◌, count_by, MatchBool}
+use Rattle.std.proofs.Common.{◌≡◌, ℕ, Bool, true, false, List, [], ◌∷◌, Option, None, Some, is_some, refl, sym, ap, ◌∙◌, ◌&&◌, MatchBool}
 use Rattle.std.specs.List.{list_all}
 use Rattle.std.specs.Option.{option_map}
 use Rattle.std.proofs.lemmas.Bool.{both_ways}
@@ -12,8 +12,8 @@ use Rattle.wtf_values.specs.declared.value.Node.TheVariants.{Folder, File}
 use Rattle.wtf_imagefmt.specs.declared.records.PathRecord.{PathRecord}
 use Rattle.wtf_imagefmt.specs.Rows.{FileRow, ImageRows}
 use Rattle.wtf_imagefmt.specs.Lookups.{NodeIs, LastIs, node_at, last_at}
-use Rattle.wtf_image.specs.Rules.{is_folder, is_in_folder, has_parent, is_name_of, is_named_once, is_recorded_node, is_recorded, is_good_file, IsGoodTree}
-use Rattle.wtf_image.specs.Tables.{count_in, Shown, ShowsRows, is_shown_folder, is_shown_in, has_shown_parent, is_shown_node}
+use Rattle.wtf_image.specs.Rules.{is_folder, is_in_folder, has_parent, is_named_times, is_named, is_recorded_node, is_recorded, is_good_file, IsGoodTree}
+use Rattle.wtf_image.specs.Tables.{AreCounts, count_in, Shown, ShowsRows, is_shown_folder, is_shown_in, has_shown_parent, is_shown_node}
 
 all_same : {A : Type 0} (p q : A → Bool) → ((x : A) → p x ≡ q x) → (xs : List A) → list_all p xs ≡ list_all q xs
 all_same p q same [] = refl
@@ -46,11 +46,14 @@ module _ (m : Shown) (x : ImageRows) (shows : ShowsRows m x.paths x.files) where
   pub recorded_are : list_all (λ r. is_shown_node m r.node) x.paths ≡ list_all (is_recorded x.files) x.paths
   recorded_are = all_same (λ (r : PathRecord). is_shown_node m r.node) (is_recorded x.files) (λ r. node_is r.node) x.paths
 
-pub named_are : (x : ImageRows) (counts : List (InodeId × ℕ)) → ((i : InodeId) → count_in counts i ≡ count_by (λ r. is_name_of i r.node) x.paths)
-    → list_all (λ f. eqb (count_in counts f.inode) 1) x.files ≡ list_all (is_named_once x.paths) x.files
-named_are x counts is = all_same (λ (f : FileRow). eqb (count_in counts f.inode) 1) (is_named_once x.paths) (λ f. ap (λ n. eqb n 1) (is f.inode)) x.files
+pub named_are : (x : ImageRows) (counts : List (InodeId × ℕ)) → AreCounts counts x.paths
+    → list_all (λ f. is_named_times x.version (count_in counts f.inode)) x.files ≡ list_all (is_named x.version x.paths) x.files
+named_are x counts is =
+    all_same (λ (f : FileRow). is_named_times x.version (count_in counts f.inode)) (is_named x.version x.paths)
+    (λ f. ap (is_named_times x.version) (is f.inode)) x.files
 
-pub tree_is : (x : ImageRows) → is_folder (node_at x.paths root) ≡ true → list_all (has_parent x.paths) x.paths ≡ true → list_all (is_recorded x.files) x.paths ≡ true → list_all (is_named_once x.paths) x.files ≡ true
+pub tree_is : (x : ImageRows) → is_folder (node_at x.paths root) ≡ true → list_all (has_parent x.paths) x.paths ≡ true
+    → list_all (is_recorded x.files) x.paths ≡ true → list_all (is_named x.version x.paths) x.files ≡ true
     → (b : Bool) → b ≡ list_all (is_good_file x.header.region) x.files → MatchBool b (IsGoodTree x) (IsGoodTree x → ⊥)
 tree_is x top parents recorded named true is = record { top = top; parents = parents; recorded = recorded; named = named; files = sym is }
 tree_is x top parents recorded named false is = λ good. both_ways _ (sym is) good.files

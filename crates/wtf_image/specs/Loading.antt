@@ -1,5 +1,6 @@
 -- What is loaded of an image, and why bytes are refused.
 use Rattle.std.specs.Prelude.{◌≡◌, ℕ, Bool, true, false, List, [], Option, None, Some, ⊤}
+use Rattle.wtf_base.specs.declared.ids.InodeId.{InodeId}
 use Rattle.wtf_base.specs.declared.settings.Settings.{Settings}
 use Rattle.wtf_kv.specs.Stores.{Store, versions_of}
 use Rattle.wtf_values.specs.Keys.{key_cmp}
@@ -47,20 +48,22 @@ abbrev pub IsSeededBy : ℕ → List (ℕ × Option Value) → Option Plain → 
 IsSeededBy n vs None = vs ≡ []
 IsSeededBy n vs (Some s) = IsOnly n vs s
 
--- what an image says of a key that is no directory's
+-- what an image says of a key by one record, and so not of the names in a directory or of the number of a file's paths
 abbrev pub row_but_names : ImageRows → Key → Option Plain
 row_but_names x (keys.Path p) = row_at x (keys.Path p)
 row_but_names x (keys.Dir p) = None
 row_but_names x (keys.Inode i) = row_at x (keys.Inode i)
 row_but_names x (keys.Region i r) = row_at x (keys.Region i r)
+row_but_names x (keys.Links i) = None
 
--- a store with the files and the paths of an image, and no directory
+-- a store with the files and the paths of an image, no directory and no number of paths
 pub record IsPartly (x : ImageRows) (kv : Store Key Value) : Type 0 where
   pub number : kv.number ≡ x.header.installs
   pub pins : kv.pins ≡ []
   pub rows : ShowsRows (shown kv) x.paths x.files
   pub versions : (q : Key) → IsSeededBy kv.number (versions_of key_cmp kv q) (row_but_names x q)
   pub no_dirs : (p : List ℕ) → versions_of key_cmp kv (keys.Dir p) ≡ []
+  pub no_counts : (i : InodeId) → versions_of key_cmp kv (keys.Links i) ≡ []
 
 -- a store is what an image says: at its number of installs, nothing is pinned, and each key has just what the image says
 -- of it, as its one version, which is the number

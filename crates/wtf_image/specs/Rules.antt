@@ -1,20 +1,20 @@
 -- Which images are taken: the rules of settings and numbers, of the tree, and of pointers.
-use Rattle.std.specs.Prelude.{◌≡◌, ℕ, ◌+◌, ◌<◌, ◌≤◌, ◌^◌, Bool, true, false, ◌&&◌, ◌||◌, ◌==◌, nat_lt, nat_le, count_by, List, Option, None, Some, is_some}
+use Rattle.std.specs.Prelude.{◌≡◌, ℕ, ◌+◌, ◌<◌, ◌≤◌, ◌^◌, Bool, true, false, ◌&&◌, ◌||◌, ◌==◌, nat_lt, nat_le, List, Option, None, Some, is_some}
 use Rattle.std.specs.Int.{bit_at}
 use Rattle.std.specs.List.{list_all, list_any}
-use Rattle.std.specs.Ordering.{is_eq}
 use Rattle.wtf_base.specs.Limits.{AreSettings}
 use Rattle.wtf_base.specs.declared.ids.InodeId.{InodeId}
 use Rattle.wtf_base.specs.declared.pointer.Pointer.{Pointer}
 use Rattle.wtf_model.specs.Tree.{root}
 use Rattle.wtf_path.specs.Parts.{parent_of}
 pub use Rattle.wtf_replica.specs.Inside.{size_in, lies_inside}
-use Rattle.wtf_values.specs.Keys.{inode_cmp}
 use Rattle.wtf_values.specs.declared.value.Node.{Node}
 use Rattle.wtf_values.specs.declared.value.Node.TheVariants.{Folder, File}
+use Rattle.wtf_imagefmt.specs.declared.records.Version.{Version}
+use Rattle.wtf_imagefmt.specs.declared.records.Version.TheVariants.{One, Two}
 use Rattle.wtf_imagefmt.specs.declared.records.PathRecord.{PathRecord}
 use Rattle.wtf_imagefmt.specs.Rows.{BaseRow, RegionRow, FileRow, ImageRows}
-use Rattle.wtf_imagefmt.specs.Lookups.{node_at, last_at}
+use Rattle.wtf_imagefmt.specs.Lookups.{node_at, last_at, times_named}
 
 -- ---- settings and numbers
 
@@ -50,13 +50,13 @@ is_in_folder rs (Some dir) = is_folder (node_at rs dir)
 abbrev pub has_parent : List PathRecord → PathRecord → Bool
 has_parent rs r = is_in_folder rs (parent_of r.path)
 
--- a path names an inode
-abbrev pub is_name_of : InodeId → Node → Bool
-is_name_of i Folder = false
-is_name_of i (File j) = is_eq (inode_cmp j i)
+-- an inode is named so often: in the first version by one path, in the second by one or more
+abbrev pub is_named_times : Version → ℕ → Bool
+is_named_times One n = n == 1
+is_named_times Two n = nat_le 1 n
 
-abbrev pub is_named_once : List PathRecord → FileRow → Bool
-is_named_once rs f = count_by (λ r. is_name_of f.inode r.node) rs == 1
+abbrev pub is_named : Version → List PathRecord → FileRow → Bool
+is_named v rs f = is_named_times v (times_named rs f.inode)
 
 -- the inode that a path names has a record
 abbrev pub is_recorded_node : List FileRow → Node → Bool
@@ -78,12 +78,12 @@ is_last last r = r.number == last && nat_lt 0 r.end
 abbrev pub is_good_file : ℕ → FileRow → Bool
 is_good_file b f = nat_le f.last 4095 && (list_all (is_good_region b f.last) f.regions && (f.last == 0 || list_any (is_last f.last) f.regions))
 
--- the root is a directory, and so is each path's parent; each file is named by exactly one path, and each path's file has a
--- record; and the regions of each file are good
+-- the root is a directory, and so is each path's parent; each file is named as often as the version lets it be, and each path's
+-- file has a record; and the regions of each file are good
 pub record IsGoodTree (x : ImageRows) : Type 0 where
   pub top : is_folder (node_at x.paths root) ≡ true
   pub parents : list_all (has_parent x.paths) x.paths ≡ true
-  pub named : list_all (is_named_once x.paths) x.files ≡ true
+  pub named : list_all (is_named x.version x.paths) x.files ≡ true
   pub recorded : list_all (is_recorded x.files) x.paths ≡ true
   pub files : list_all (is_good_file x.header.region) x.files ≡ true
 

@@ -3,7 +3,7 @@ use Rattle.std.specs.Prelude.{ℕ, ◌<◌, IsSome}
 use Rattle.wtf_base.specs.declared.ids.InodeId.{InodeId}
 use Rattle.wtf_values.specs.declared.key.Key.TheVariants.{Inode}
 use Rattle.wtf_meta.specs.Maps.{Map}
-pub use Rattle.wtf_imagefmt.specs.Savable.{IsNodeValue, IsLastValue, IsRegionValue, end_now, IsListingOf, HasListing, IsSavable}
+pub use Rattle.wtf_imagefmt.specs.Savable.{IsNodeValue, IsLastValue, IsRegionValue, end_now, IsListingOf, HasListing, HasNames, IsSavable}
 
 -- each inode of a map is of a transaction before this one
 abbrev pub AreBefore : ℕ → Map → Type 0

@@ -7,14 +7,14 @@ use Rattle.wtf_kv.specs.Stores.{Store, versions_of}
 use Rattle.wtf_values.specs.Keys.{key_cmp}
 use Rattle.wtf_values.specs.Names.{NamesOf}
 use Rattle.wtf_values.specs.declared.key.Key.{Key}
-use Rattle.wtf_values.specs.declared.key.Key.TheVariants.{Path, Dir, Inode, Region}
+use Rattle.wtf_values.specs.declared.key.Key.TheVariants.{Path, Dir, Inode, Region, Links}
 use Rattle.wtf_values.specs.declared.value.Node.{Node}
 use Rattle.wtf_values.specs.declared.value.Node.TheVariants.{Folder, File}
 use Rattle.wtf_values.specs.declared.value.Value.{Value}
 use Rattle.wtf_imagefmt.specs.declared.records.PathRecord.{PathRecord}
 use Rattle.wtf_imagefmt.specs.Rows.{RegionRow, FileRow}
 pub use Rattle.wtf_imagefmt.specs.Shapes.{AreRegionsAscending}
-use Rattle.wtf_imagefmt.specs.Lookups.{Plain, NodeIs, NamesAre, LastIs, plain, plain_region, names_under}
+use Rattle.wtf_imagefmt.specs.Lookups.{Plain, NodeIs, NamesAre, LastIs, plain, plain_region, names_under, count_row}
 
 abbrev pub Seed : Type 0
 Seed = Key × Plain
@@ -40,6 +40,14 @@ last_seed i n = (Inode i, LastIs n) ∷ []
 
 abbrev pub file_seeds : FileRow → List Seed
 file_seeds f = last_seed f.inode f.last ++ flat_map (region_seed f.inode) f.regions
+
+-- of the number of a file's paths, if it is said
+abbrev pub count_seed_by : InodeId → Option Plain → List Seed
+count_seed_by i None = []
+count_seed_by i (Some s) = (Links i, s) ∷ []
+
+abbrev pub count_seed : (InodeId → ℕ) → FileRow → List Seed
+count_seed times f = count_seed_by f.inode (count_row (times f.inode))
 
 -- the value is the first of a key, and its only version
 pub record IsOnly (n : ℕ) (vs : List (ℕ × Option Value)) (s : Plain) : Type 0 where

@@ -14,12 +14,15 @@ use Rattle.wtf_values.specs.declared.value.Node.{Node}
 use Rattle.wtf_values.specs.declared.value.Node.TheVariants.{Folder, File}
 use Rattle.wtf_imagefmt.specs.declared.records.PathRecord.{PathRecord}
 use Rattle.wtf_imagefmt.specs.Rows.{FileRow}
-use Rattle.wtf_imagefmt.specs.Lookups.{Plain, NodeIs, NamesAre, LastIs, RegionIs, node_at, last_at}
+use Rattle.wtf_imagefmt.specs.Lookups.{Plain, NodeIs, NamesAre, LastIs, RegionIs, CountIs, node_at, last_at, times_named}
 pub use Rattle.wtf_imagefmt.specs.Shown.{Shown, shown}
 
 -- how often an inode is named, by a table
 abbrev pub count_in : List (InodeId × ℕ) → InodeId → ℕ
 count_in counts i = unwrap_or (lookup (is_at (inode_cmp i)) counts) 0
+
+abbrev pub AreCounts : List (InodeId × ℕ) → List PathRecord → Type 0
+AreCounts counts rs = (i : InodeId) → count_in counts i ≡ times_named rs i
 
 -- the names in a directory, by a table
 abbrev pub table_names : List (List ℕ × NamesOf) → List ℕ → NamesOf
@@ -35,6 +38,7 @@ is_shown_folder None = false
 is_shown_folder (Some (NodeIs Folder)) = true
 is_shown_folder (Some (NodeIs (File i))) = false
 is_shown_folder (Some (NamesAre names)) = false
+is_shown_folder (Some (CountIs n)) = false
 is_shown_folder (Some (LastIs n)) = false
 is_shown_folder (Some (RegionIs end base entries)) = false
 

@@ -1,6 +1,7 @@
 //! What the definitions say, as contracts of functions that do nothing.
 
-ghost use Rattle.std.specs.Prelude.{◌≡◌, ◌<◌, ◌++◌, ℕ, Bool, false, List, []};
+ghost use Rattle.std.specs.Prelude.{◌≡◌, ◌<◌, ◌^◌, ◌++◌, ℕ, Bool, false, List, []};
+ghost use Rattle.std.specs.FinMap.{len};
 ghost use Rattle.wtf_base.specs.declared.pointer.Pointer.{Pointer};
 ghost use Rattle.wtf_base.specs.declared.settings.Settings.{Settings};
 ghost use Rattle.wtf_kv.specs.Stores.{Store};
@@ -14,12 +15,15 @@ ghost use Rattle.wtf_meta.specs.Contents.{Told};
 ghost use Rattle.wtf_meta.specs.Trees.{Stands};
 ghost use Rattle.wtf_image.specs.Tables.{shown};
 ghost use Rattle.wtf_image.specs.Savable.{AreBefore, IsSavable};
+ghost use Rattle.wtf_imagefmt.specs.declared.records.Version.TheVariants.{Two};
 ghost use Rattle.wtf_imagefmt.specs.Rows.{ImageRows};
+ghost use Rattle.wtf_imagefmt.specs.Texts.{image_text};
 ghost use Rattle.wtf_image.specs.Images.{HasText};
 ghost use Rattle.wtf_image.specs.Rules.{is_lost, none_lost, lies_inside, lies_inside_without};
 ghost use Rattle.wtf_image.specs.Loading.{IsLoadRefusal, IsTaken, IsTakenWithout};
 ghost use Rattle.wtf_image.specs.Outcome.{IsLoadOf};
-ghost use Rattle.wtf_imagefmt.specs.Saving.{IsSaveOf};
+ghost use Rattle.wtf_image.specs.Pictured.{IsImageOfTree};
+ghost use Rattle.wtf_imagefmt.specs.Saving.{IsSaveOf, as_second};
 ghost use Rattle.wtf_image.specs.Kept.{IsKept, IsSameAs, IsPointerOrMemory};
 
 /// Bytes are one image at most, and no image is a proper front of another.
@@ -39,11 +43,13 @@ pub fn what_was_saved_is_loaded()
         IsPointerOrMemory why }
 {}
 
-/// The bytes are the image of what was loaded of them. Each of its inodes is of a transaction before
-/// the next one.
+/// What was loaded of an image has the same rows for its image, in the second version, and the bytes
+/// themselves where they are of that. Each of its inodes is of a transaction before the next one.
 pub fn what_was_loaded_is_its_image()
-    ensures image { (size : ℕ → ℕ → ℕ) (bytes : List ℕ) (l : Loaded) →
-        IsLoadOf size bytes l → IsSaveOf l.kv l.settings l.next_tx bytes }
+    ensures image { (size : ℕ → ℕ → ℕ) (bytes : List ℕ) (l : Loaded) (load : IsLoadOf size bytes l) →
+        IsSaveOf l.kv l.settings l.next_tx (image_text (as_second load.rows)) }
+    ensures same { (size : ℕ → ℕ → ℕ) (bytes : List ℕ) (l : Loaded) (load : IsLoadOf size bytes l) →
+        load.rows.version ≡ Two → IsSaveOf l.kv l.settings l.next_tx bytes }
     ensures before { (size : ℕ → ℕ → ℕ) (bytes : List ℕ) (l : Loaded) →
         IsLoadOf size bytes l → AreBefore l.next_tx (metadata_at l.kv l.kv.number) }
 {}
@@ -54,6 +60,11 @@ pub fn what_stands_can_be_saved()
     ensures { (b : ℕ) (told : Told) (tx calls n : ℕ) (kv : Store Key Value) (t : Tree) →
         Stands b told tx calls (metadata_at kv kv.number) t → 0 < n →
         AreBefore n (metadata_at kv kv.number) → IsSavable b n (shown kv) }
+{}
+
+/// The tree that an image stands for has less than 2^32 paths: an image counts them.
+pub fn image_is_small()
+    ensures { (told : Told) (bytes : List ℕ) (t : Tree) → IsImageOfTree told bytes t → len t < 2 ^ 32 }
 {}
 
 /// A mask without a bit names no server, and where none is lost each extent is tried whole. What is taken

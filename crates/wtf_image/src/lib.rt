@@ -4,6 +4,9 @@
 //! begins next. `check` gives the settings of an image, `load` its metadata over stores, and `load_without` the
 //! same where some servers are lost, whose stores are not looked at. No stored byte is read in any of them.
 //!
+//! An image of the first version and one of the second are read, each by its own rule of how many paths may
+//! name a file, and the second is written.
+//!
 //! An image is refused by the first rule that it breaks, in the order of `LoadError` (`cause`, by
 //! `specs/Rules`), and nothing else is refused, unless memory runs out. What it names has to lie inside the
 //! stores; what its spilled lists name is not looked at.
@@ -18,6 +21,7 @@
 //! memory.
 #![tactic(auto)]
 
+mod counts;
 mod error;
 pub mod examples;
 mod inside;

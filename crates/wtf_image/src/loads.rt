@@ -1,20 +1,16 @@
 //! An image is loaded, or refused.
 
-ghost use Rattle.std.specs.Prelude.{◌≡◌, ◌≤◌, ℕ, List, [], true, length, IfOk, IfErr, OnOk};
-ghost use Rattle.std.specs.List.{flat_map};
-ghost use Rattle.wtf_kv.specs.Stores.{versions_of};
-ghost use Rattle.wtf_values.specs.Keys.{key_cmp};
-ghost use Rattle.wtf_values.specs.declared.key.Key.TheVariants as keys;
+ghost use Rattle.std.specs.Prelude.{◌≡◌, ◌≤◌, true, length, IfOk, IfErr, OnOk};
 ghost use Rattle.wtf_imagefmt.specs.Rows.{ImageRows, image_rows};
-ghost use Rattle.wtf_imagefmt.specs.Shapes.{ascends, path_before, IsImage};
+ghost use Rattle.wtf_imagefmt.specs.Shapes.{IsImage};
 ghost use Rattle.wtf_image.specs.Images.{HasText};
-ghost use Rattle.wtf_image.specs.Seeds.{Adds, dir_seed};
-ghost use Rattle.wtf_image.specs.Tables.{shown, ShowsRows};
+ghost use Rattle.wtf_image.specs.Tables.{AreCounts, shown, ShowsRows};
 ghost use Rattle.wtf_image.specs.Rules.{AreGoodSettings, IsGoodTree, size_in, is_lost, are_inside_without};
-ghost use Rattle.wtf_image.specs.Loading.{IsChecked, IsLoadRefusal, IsRefusalWithout, IsCheckRefusal, IsLateRefusal, IsPartly};
+ghost use Rattle.wtf_image.specs.Loading.{IsChecked, IsLoadRefusal, IsRefusalWithout, IsCheckRefusal, IsLateRefusal, IsPartly, IsLoaded};
 ghost use Rattle.wtf_image.specs.Outcome.{IsLoadOf, IsLoadWithout};
 
 use crate::LoadError;
+use crate::counts::{counts_of, seed_counts};
 use crate::inside::are_files_inside;
 use crate::names::{directories, seed_dirs};
 use crate::parse::parse;
@@ -22,9 +18,10 @@ use crate::seeding::{seed_files, seed_paths};
 use crate::settings::good_settings;
 use crate::tree::is_tree;
 use std::alloc::Global;
-use wtf_base::{OutOfMemory, Settings};
+use std::collections::BTreeMap;
+use wtf_base::{InodeId, OutOfMemory, Settings};
 use wtf_dev::{Shelf, SliceStore};
-use wtf_imagefmt::{Image, PathRecord};
+use wtf_imagefmt::Image;
 use wtf_kv::Kv;
 use wtf_values::{Key, Value};
 
@@ -64,31 +61,37 @@ fn store_of(alloc: Global, image: &Image) -> Result<Kv<Key, Value>, OutOfMemory>
     Ok(kv)
 }
 
-/// The names in directories are added.
+/// What comes of all paths is added: the names in directories, and how many paths a file has.
 fn add_names(
     alloc: Global,
     kv: &mut Kv<Key, Value>,
-    paths: &[PathRecord],
+    image: &Image,
+    counts: &BTreeMap<InodeId, u64>,
 ) -> Result<(), OutOfMemory>
-    requires pins { kv.old.pins ≡ [] }
-    requires ascend { ascends path_before paths.now ≡ true }
-    requires fresh { (p : List ℕ) → versions_of key_cmp kv.old (keys.Dir p) ≡ [] }
-    ensures { OnOk result (Adds kv.old kv.new (flat_map (dir_seed paths.now) paths.now)) }
+    requires shape { IsImage (image_rows image.now) }
+    requires tree { IsGoodTree (image_rows image.now) }
+    requires partly { IsPartly (image_rows image.now) kv.old }
+    requires counts { AreCounts counts.now.entries image.now.paths.items }
+    ensures { OnOk result (IsLoaded (image_rows image.now) kv.new) }
 {
+    let paths = image.paths.as_slice();
     let dirs = directories(alloc, paths)?;
     seed_dirs(alloc, kv, &dirs, paths)?;
+    seed_counts(kv, counts, image.files.as_slice())?;
     Ok(())
 }
 
 /// Whether the tree and the pointers of an image with good settings are good; the store has its files
-/// and paths, and a server is lost where its bit is set.
+/// and paths, the table how often each inode is named, and a server is lost where its bit is set.
 fn try_rules<S: SliceStore>(
     alloc: Global,
     kv: &Kv<Key, Value>,
     image: &Image,
+    counts: &BTreeMap<InodeId, u64>,
     shelf: &Shelf<S>,
     lost: u16,
 ) -> Result<(), LoadError>
+    requires counts { AreCounts counts.now.entries image.now.paths.items }
     requires rows { ShowsRows (shown kv.now) (image_rows image.now).paths (image_rows image.now).files }
     requires shelf { image.now.header.servers ≤ length shelf.now }
     ensures tree { OnOk result (IsGoodTree (image_rows image.now)) }
@@ -97,7 +100,7 @@ fn try_rules<S: SliceStore>(
     ensures cause { IfErr result (IsLateRefusal (is_lost lost)
         (size_in S.kind shelf.now) (image_rows image.now)) }
 {
-    let good = match is_tree(alloc, kv, image) {
+    let good = match is_tree(alloc, kv, image, counts) {
         Ok(good) => good,
         Err(_) => return Err(LoadError::Memory),
     };
@@ -154,11 +157,15 @@ pub fn load_without<S: SliceStore>(
         Ok(kv) => kv,
         Err(_) => return Err(LoadError::Memory),
     };
-    match try_rules(alloc, &kv, &image, shelf, lost) {
+    let counts = match counts_of(alloc, image.paths.as_slice()) {
+        Ok(counts) => counts,
+        Err(_) => return Err(LoadError::Memory),
+    };
+    match try_rules(alloc, &kv, &image, &counts, shelf, lost) {
         Ok(()) => {}
         Err(why) => return Err(why),
     }
-    match add_names(alloc, &mut kv, image.paths.as_slice()) {
+    match add_names(alloc, &mut kv, &image, &counts) {
         Ok(()) => {}
         Err(_) => return Err(LoadError::Memory),
     }

@@ -8,13 +8,13 @@ ghost use Rattle.wtf_image.specs.Kept.{IsKept};
 
 use std::alloc::Global;
 use wtf_base::{OutOfMemory, Settings};
-use wtf_imagefmt::{Header, Image, files_now, paths_now, write};
+use wtf_imagefmt::{Header, Image, Version, files_now, paths_now, write};
 use wtf_kv::Kv;
 use wtf_values::{Key, Value};
 
-/// The image of a store as it stands, with the settings and the number of the transaction that begins
-/// next. A store whose paths, files or entries of one region are 2^32 or more has no image: the counts
-/// of the format are want of memory. No stored byte is read.
+/// The image of a store as it stands, of the second version, with the settings and the number of the
+/// transaction that begins next. A store whose paths, files or entries of one region are 2^32 or more
+/// has no image: the counts of the format are want of memory. No stored byte is read.
 pub fn save(
     alloc: Global,
     kv: &Kv<Key, Value>,
@@ -36,6 +36,7 @@ pub fn save(
     let paths = paths_now(alloc, kv)?;
     let files = files_now(alloc, kv)?;
     let image = Image {
+        version: Version::Two,
         header,
         paths,
         files,

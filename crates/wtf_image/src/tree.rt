@@ -1,30 +1,33 @@
-//! The rules of a tree: paths stand in directories, and each file is named by exactly one path.
+//! The rules of a tree: paths stand in directories, and each file is named by paths.
 
-ghost use Rattle.std.specs.Prelude.{◌≡◌, ◌+◌, ◌<◌, ◌^◌, ◌==◌, if◌then◌else◌, count_by, IfOk, OnOk, MatchBool};
+ghost use Rattle.std.specs.Prelude.{◌≡◌, IfOk, MatchBool};
 ghost use Rattle.std.specs.List.{list_all, list_any};
-ghost use Rattle.wtf_base.specs.declared.ids.InodeId.{InodeId};
 ghost use Rattle.wtf_path.specs.Grammar.{IsPath};
 ghost use Rattle.wtf_values.specs.declared.key.Key.TheVariants as keys;
 ghost use Rattle.wtf_imagefmt.specs.Rows.{region_rows, file_row, file_rows, image_rows};
-ghost use Rattle.wtf_image.specs.Rules.{is_name_of, is_good_region, is_last, is_good_file, IsGoodTree};
-ghost use Rattle.wtf_image.specs.Tables.{count_in, shown, ShowsRows, is_shown_folder, has_shown_parent, is_shown_node};
+ghost use Rattle.wtf_image.specs.Rules.{is_named_times, is_good_region, is_last, is_good_file, IsGoodTree};
+ghost use Rattle.wtf_image.specs.Tables.{AreCounts, count_in, shown, ShowsRows, is_shown_folder, has_shown_parent, is_shown_node};
 
+use crate::counts::count_now;
 use std::alloc::Global;
 use std::collections::BTreeMap;
 use wtf_base::{InodeId, OutOfMemory};
-use wtf_imagefmt::{FileRecord, Image, PathRecord, RegionRecord};
+use wtf_imagefmt::{FileRecord, Image, PathRecord, RegionRecord, Version};
 use wtf_kv::Kv;
 use wtf_path::Path;
 use wtf_values::{Key, Node, Value};
 
-/// Whether the paths and files of an image, which the store has, make a tree. Each path takes the
-/// time of a few searches among the keys.
+/// Whether the paths and files of an image, which the store has, make a tree, where the table has how
+/// often each inode is named. Each path takes the time of a few searches among the keys.
 pub(crate) fn is_tree(
     alloc: Global,
     kv: &Kv<Key, Value>,
     image: &Image,
+    counts: &BTreeMap<InodeId, u64>,
 ) -> Result<bool, OutOfMemory>
-    requires { ShowsRows (shown kv.now) image.now.paths.items (file_rows image.now.files.items) }
+    requires shows { ShowsRows (shown kv.now) image.now.paths.items
+        (file_rows image.now.files.items) }
+    requires counts { AreCounts counts.now.entries image.now.paths.items }
     ensures { IfOk result (λ b. MatchBool b (IsGoodTree (image_rows image.now))
         (IsGoodTree (image_rows image.now) → ⊥)) }
 {
@@ -39,8 +42,7 @@ pub(crate) fn is_tree(
     if !are_recorded(kv, paths) {
         return Ok(false);
     }
-    let counts = counts_of(alloc, paths)?;
-    if !are_named_once(&counts, files) {
+    if !are_named(image.version, counts, files) {
         return Ok(false);
     }
     Ok(are_good_files(image.header.region, files))
@@ -109,54 +111,27 @@ fn is_recorded(kv: &Kv<Key, Value>, node: Node) -> bool
     }
 }
 
-/// How often each inode is named by a path.
-fn counts_of(alloc: Global, paths: &[PathRecord]) -> Result<BTreeMap<InodeId, u64>, OutOfMemory>
-    ensures { IfOk result (λ counts. (i : InodeId) →
-        count_in counts.entries i ≡ count_by (λ r. is_name_of i r.node) paths.now) }
-{
-    let mut counts = BTreeMap::new(alloc);
-    for record in paths {
-        count(&mut counts, record.node)?;
-    }
-    Ok(counts)
-}
-
-/// Counts the inode that a path names once more.
-fn count(counts: &mut BTreeMap<InodeId, u64>, node: Node) -> Result<(), OutOfMemory>
-    requires { (i : InodeId) → count_in counts.old.entries i + 1 < 2 ^ 64 }
-    ensures { OnOk result ((i : InodeId) → count_in counts.new.entries i ≡
-        count_in counts.old.entries i + (if is_name_of i node then 1 else 0)) }
-{
-    let inode = match node {
-        Node::Folder => return Ok(()),
-        Node::File(inode) => inode,
-    };
-    let had = count_now(counts, inode);
-    let _ = counts.insert(inode, had + 1)?;
-    Ok(())
-}
-
-/// How often an inode is named, by a table that lacks those that are not.
-fn count_now(counts: &BTreeMap<InodeId, u64>, inode: InodeId) -> u64
-    ensures { result ≡ count_in counts.now.entries inode }
-{
-    match counts.get(&inode) {
-        Some(n) => *n,
-        None => 0,
-    }
-}
-
-/// Whether each file is named by exactly one path.
-fn are_named_once(counts: &BTreeMap<InodeId, u64>, files: &[FileRecord]) -> bool
-    ensures { result ≡ list_all (λ f. count_in counts.now.entries f.inode == 1)
+/// Whether each file is named as often as a version lets it be.
+fn are_named(version: Version, counts: &BTreeMap<InodeId, u64>, files: &[FileRecord]) -> bool
+    ensures { result ≡ list_all (λ f. is_named_times version (count_in counts.now.entries f.inode))
         (file_rows files.now) }
 {
     for file in files {
-        if count_now(counts, file.inode) != 1 {
+        if !is_named(version, count_now(counts, file.inode)) {
             return false;
         }
     }
     true
+}
+
+/// Whether a file may be named so often: in the first version by one path, in the second by one or more.
+fn is_named(version: Version, times: u64) -> bool
+    ensures { result ≡ is_named_times version times }
+{
+    match version {
+        Version::One => times == 1,
+        Version::Two => times >= 1,
+    }
 }
 
 /// Whether the regions of each file are good, where a region has at most so many bytes.

@@ -1,6 +1,7 @@
 -- The text and the reader of each record of an image belong together, and those of the whole image.
-use Rattle.std.proofs.Common.{◌≡◌, ℕ, zero, suc, ◌^◌, ◌<◌, true, cond, eqb, List, [], ◌∷◌, ◌++◌, length, Option, Some, None, refl, sym, ap, subst, ◌∙◌, arith}
-use Rattle.std.specs.Prelude.{IsNone, is_none}
+use Rattle.std.proofs.Common.{◌≡◌, ℕ, zero, suc, ◌^◌, ◌<◌, Bool, true, false, ◌||◌, cond, eqb, List, [], ◌∷◌, ◌++◌, length, Option, Some, None, refl, sym, ap}
+use Rattle.std.proofs.Common.{subst, ◌∙◌, arith}
+use Rattle.std.specs.Prelude.{IsNone, is_none, bytes_eq, ⊤}
 use Rattle.std.specs.List.{AllByRecursion}
 use Rattle.std.specs.Int.{w16, w32, w64, to_be_bytes}
 use Rattle.std.proofs.lemmas.Bool.{eqb-true}
@@ -15,14 +16,21 @@ use Rattle.wtf_values.specs.declared.value.Node.TheVariants.{Folder, File}
 use Rattle.wtf_overlay.specs.Texts.{entries_text}
 use Rattle.wtf_overlay.specs.Shapes.{IsEntry}
 use Rattle.wtf_overlay.specs.Reading.{◌>>=◌, counted_at}
-use Rattle.wtf_spillfmt.proofs.Codecs.{Codec, IsBytes, IsBytes-rest, Takes, IsMade, some_is, bind_some, passed, codec_then, codec_as, codec_form, codec_only, counted_codec, byte_codec, codec16, codec32, codec64, text_codec}
+use Rattle.wtf_spillfmt.proofs.Codecs.{Codec, IsBytes, IsBytes-rest, Takes, IsMade, some_is, bind_some, passed, codec_then, codec_as, codec_form, codec_only}
+use Rattle.wtf_spillfmt.proofs.Codecs.{counted_codec, byte_codec, codec16, codec32, codec64, text_codec}
 use Rattle.wtf_spillfmt.proofs.Lists.{entries_codec}
+use Rattle.wtf_imagefmt.specs.declared.records.Version.{Version}
+use Rattle.wtf_imagefmt.specs.declared.records.Version.TheVariants.{One, Two}
 use Rattle.wtf_imagefmt.specs.declared.records.Header.{Header}
 use Rattle.wtf_imagefmt.specs.declared.records.PathRecord.{PathRecord}
 use Rattle.wtf_imagefmt.specs.Rows.{BaseRow, EntryRow, ValueRow, RegionRow, FileRow, ImageRows}
-use Rattle.wtf_imagefmt.specs.Texts.{base_text, value_text, region_text, regions_text, inode_text, file_text, files_text, node_text, name_text, path_text, paths_text, magic, header_text, image_text}
-use Rattle.wtf_imagefmt.specs.Shapes.{ascends, path_before, file_before, region_before, IsBase, IsValue, IsRegion, IsInode, IsFileRow, IsNode, IsPathRow, IsHeader, ArePaths, AreFiles, IsImage}
-use Rattle.wtf_imagefmt.specs.Reading.{make_value, value_at, make_region, region_at, make_inode, inode_at, make_file, file_at, node_at, is_path, name_at, make_path, path_at, path_records_at, files_at, is_magic, magic_at, make_header, header_at, make_image, image_at, image_of}
+use Rattle.wtf_imagefmt.specs.Texts.{base_text, value_text, region_text, regions_text, inode_text, file_text, files_text, node_text, name_text, path_text}
+use Rattle.wtf_imagefmt.specs.Texts.{paths_text, magic_of, header_text, image_text}
+use Rattle.wtf_imagefmt.specs.Shapes.{ascends, path_before, file_before, region_before, IsBase, IsValue, IsRegion, IsInode, IsFileRow, IsNode, IsPathRow}
+use Rattle.wtf_imagefmt.specs.Shapes.{IsHeader, ArePaths, AreFiles, IsImage}
+use Rattle.wtf_imagefmt.specs.Reading.{make_value, value_at, make_region, region_at, make_inode, inode_at, make_file, file_at, node_at, is_path, name_at}
+use Rattle.wtf_imagefmt.specs.Reading.{make_path, path_at, path_records_at, files_at, is_magic, version_of, version_at, make_header, header_at, make_image}
+use Rattle.wtf_imagefmt.specs.Reading.{image_at, image_of}
 use Rattle.wtf_imagefmt.proofs.BaseForms.{base_codec}
 
 -- ---- regions
@@ -62,7 +70,8 @@ regions_codec = counted_codec w16 (2 ^ 16) codec16 region_codec
 
 -- ---- inodes and files
 
-inode_made : IsMade (λ (x : ℕ × ℕ). to_be_bytes w64 x.0 ++ to_be_bytes w32 x.1) (λ x. (x.0 < 2 ^ 64) × (x.1 < 2 ^ 32)) inode_text IsInode make_inode (λ i. (i.tx.0, i.index))
+inode_made : IsMade (λ (x : ℕ × ℕ). to_be_bytes w64 x.0 ++ to_be_bytes w32 x.1) (λ x. (x.0 < 2 ^ 64) × (x.1 < 2 ^ 32)) inode_text IsInode make_inode
+    (λ i. (i.tx.0, i.index))
 unfolding inode_text
 inode_made = record {
   text = λ x form. refl;
@@ -103,7 +112,8 @@ node_takes : (bytes : List ℕ) (x : Node × List ℕ) → IsBytes bytes → nod
 unfolding node_at node_text
 node_takes [] x fits e = absurd cc
 node_takes (zero ∷ bytes) x fits e =
-    subst (λ (y : Node × List ℕ). Takes (0 ∷ bytes) (node_text y.0) y.1 × IsNode y.0) (some_is (Folder, bytes) x e) (record { parts = refl; rest_fits = IsBytes-rest 0 bytes fits }, tt)
+    subst (λ (y : Node × List ℕ). Takes (0 ∷ bytes) (node_text y.0) y.1 × IsNode y.0) (some_is (Folder, bytes) x e)
+    (record { parts = refl; rest_fits = IsBytes-rest 0 bytes fits }, tt)
 node_takes (suc zero ∷ bytes) x fits e =
     let b = bind_some (inode_at bytes) (λ s. Some (File s.0, s.1)) x e in
     let t = inode_codec.takes bytes b.0 (IsBytes-rest 1 bytes fits) b.1 in
@@ -127,7 +137,8 @@ is_none-none : {A : Type 0} (o : Option A) → IsNone o → is_none o ≡ true
 is_none-none None h = refl
 is_none-none (Some x) h = absurd (cc)
 
-name_made : IsMade (λ (x : ℕ × List ℕ). to_be_bytes w16 x.0 ++ x.1) (λ x. (x.0 < 2 ^ 16) × (length x.1 ≡ x.0)) name_text (λ p. length p < 2 ^ 16) (λ x. x.1) (λ p. (length p, p))
+name_made : IsMade (λ (x : ℕ × List ℕ). to_be_bytes w16 x.0 ++ x.1) (λ x. (x.0 < 2 ^ 16) × (length x.1 ≡ x.0)) name_text (λ p. length p < 2 ^ 16) (λ x. x.1)
+    (λ p. (length p, p))
 unfolding name_text
 name_made = record {
   text = λ x form. ap (λ (n : ℕ). to_be_bytes w16 n ++ x.1) form.1;
@@ -165,11 +176,32 @@ paths_codec = codec_form
 
 -- ---- the whole image
 
-magic_codec : Codec (λ (m : List ℕ). m) (λ m. (length m ≡ 8) × (is_magic m ≡ true)) magic_at
-unfolding magic_at
-magic_codec = codec_only is_magic (text_codec 8)
+magic_read : (m : List ℕ) (b : Bool) → bytes_eq m (magic_of One) ≡ b → (b || bytes_eq m (magic_of Two)) ≡ true → magic_of (cond b One Two) ≡ m
+magic_read m true is h = sym ((bytes_eq-Decides m (magic_of One)).0 is)
+magic_read m false is h = sym ((bytes_eq-Decides m (magic_of Two)).0 h)
 
-header_made : IsMade (λ (x : ℕ × (ℕ × (ℕ × (ℕ × ℕ)))). (x.0 ∷ []) ++ ((x.1.0 ∷ []) ++ (to_be_bytes w32 x.1.1.0 ++ (to_be_bytes w64 x.1.1.1.0 ++ to_be_bytes w64 x.1.1.1.1))))
+magic_form : (v : Version) → (length (magic_of v) ≡ 8) × (is_magic (magic_of v) ≡ true)
+magic_form One = (refl, refl)
+magic_form Two = (refl, refl)
+
+version_again : (v : Version) → version_of (magic_of v) ≡ v
+version_again One = refl
+version_again Two = refl
+
+version_made : IsMade (λ (m : List ℕ). m) (λ m. (length m ≡ 8) × (is_magic m ≡ true)) magic_of (λ v. ⊤) version_of magic_of
+version_made = record {
+  text = λ m form. magic_read m (bytes_eq m (magic_of One)) refl form.1;
+  form = λ m form. tt;
+  back = λ v form. magic_form v;
+  same = λ v form. version_again v;
+}
+
+version_codec : Codec magic_of (λ v. ⊤) version_at
+unfolding version_at
+version_codec = codec_as version_made (codec_only is_magic (text_codec 8))
+
+header_made : IsMade (λ (x : ℕ × (ℕ × (ℕ × (ℕ × ℕ)))).
+    (x.0 ∷ []) ++ ((x.1.0 ∷ []) ++ (to_be_bytes w32 x.1.1.0 ++ (to_be_bytes w64 x.1.1.1.0 ++ to_be_bytes w64 x.1.1.1.1))))
     (λ x. (x.0 < 2 ^ 8) × ((x.1.0 < 2 ^ 8) × ((x.1.1.0 < 2 ^ 32) × ((x.1.1.1.0 < 2 ^ 64) × (x.1.1.1.1 < 2 ^ 64)))))
     header_text IsHeader make_header (λ h. (h.servers, (h.replicas, (h.region, (h.installs, h.next_tx)))))
 unfolding header_text
@@ -182,22 +214,33 @@ header_made = record {
 
 header_codec : Codec header_text IsHeader header_at
 unfolding header_at
-header_codec = codec_as header_made (codec_then byte_codec (λ a f. codec_then byte_codec (λ b g. codec_then codec32 (λ c h. codec_then codec64 (λ d i. codec64)))))
+header_codec = codec_as header_made (codec_then byte_codec
+    (λ a f. codec_then byte_codec (λ b g. codec_then codec32 (λ c h. codec_then codec64 (λ d i. codec64)))))
 
-image_made : IsMade (λ (x : List ℕ × (Header × (List PathRecord × List FileRow))). x.0 ++ (header_text x.1.0 ++ (paths_text x.1.1.0 ++ files_text x.1.1.1)))
-    (λ x. ((length x.0 ≡ 8) × (is_magic x.0 ≡ true)) × (IsHeader x.1.0 × (ArePaths x.1.1.0 × AreFiles x.1.1.1)))
-    image_text IsImage make_image (λ x. (magic, (x.header, (x.paths, x.files))))
+image_made : IsMade (λ (x : Version × (Header × (List PathRecord
+    × List FileRow))). magic_of x.0 ++ (header_text x.1.0 ++ (paths_text x.1.1.0 ++ files_text x.1.1.1)))
+    (λ x. ⊤ × (IsHeader x.1.0 × (ArePaths x.1.1.0 × AreFiles x.1.1.1)))
+    image_text IsImage make_image (λ x. (x.version, (x.header, (x.paths, x.files))))
 unfolding image_text
 image_made = record {
-  text = λ x form. ap (λ (m : List ℕ). m ++ (header_text x.1.0 ++ (paths_text x.1.1.0 ++ files_text x.1.1.1))) (sym ((bytes_eq-Decides x.0 magic).0 form.0.1));
+  text = λ x form. refl;
   form = λ x form. record { header = form.1.0; paths = form.1.1.0; files = form.1.1.1 };
-  back = λ x form. ((refl, refl), (form.header, (form.paths, form.files)));
+  back = λ x form. (tt, (form.header, (form.paths, form.files)));
   same = λ x form. refl;
 }
 
 image_codec : Codec image_text IsImage image_at
 unfolding image_at
-image_codec = codec_as image_made (codec_then magic_codec (λ m f. codec_then header_codec (λ h g. codec_then paths_codec (λ ps i. files_codec))))
+image_codec = codec_as image_made (codec_then version_codec (λ v f. codec_then header_codec (λ h g. codec_then paths_codec (λ ps i. files_codec))))
+
+magic_some : (v : Version) (rest : List ℕ) → magic_of v ++ rest ≡ [] → ⊥
+magic_some One rest none = cc
+magic_some Two rest none = cc
+
+-- no image is the text of no byte
+pub text_some : (x : ImageRows) (bytes : List ℕ) → bytes ≡ image_text x → bytes ≡ [] → ⊥
+unfolding image_text
+text_some x bytes text none = magic_some x.version (header_text x.header ++ (paths_text x.paths ++ files_text x.files)) (sym text ∙ none)
 
 -- what is read has these bytes for its text
 pub image_takes : (bytes : List ℕ) (x : ImageRows) → IsBytes bytes → image_of bytes ≡ Some x → IsImage x × (bytes ≡ image_text x)

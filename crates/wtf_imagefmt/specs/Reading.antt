@@ -1,5 +1,5 @@
 -- An image read from left to right: what stands at the front of bytes, and the bytes behind it, if they have that form.
-use Rattle.std.specs.Prelude.{ℕ, zero, suc, Bool, ◌==◌, ◌&&◌, nat_lt, nat_le, bytes_eq, if◌then◌else◌, List, length, Option, None, Some, is_none}
+use Rattle.std.specs.Prelude.{ℕ, zero, suc, Bool, ◌==◌, ◌&&◌, ◌||◌, nat_lt, nat_le, bytes_eq, if◌then◌else◌, List, length, Option, None, Some, is_none}
 use Rattle.std.specs.Int.{w16, w32, w64}
 use Rattle.wtf_base.specs.declared.ids.InodeId.{InodeId}
 use Rattle.wtf_base.specs.declared.pointer.Pointer.{Pointer}
@@ -7,10 +7,12 @@ use Rattle.wtf_overlay.specs.Reading.{◌>>=◌, Reader, then_at, as_at, only_at
 use Rattle.wtf_path.specs.Refusals.{refusal}
 use Rattle.wtf_values.specs.declared.value.Node.{Node}
 use Rattle.wtf_values.specs.declared.value.Node.TheVariants.{Folder, File}
+use Rattle.wtf_imagefmt.specs.declared.records.Version.{Version}
+use Rattle.wtf_imagefmt.specs.declared.records.Version.TheVariants.{One, Two}
 use Rattle.wtf_imagefmt.specs.declared.records.Header.{Header}
 use Rattle.wtf_imagefmt.specs.declared.records.PathRecord.{PathRecord}
 use Rattle.wtf_imagefmt.specs.Rows.{BaseRow, EntryRow, ValueRow, RegionRow, FileRow, ImageRows}
-use Rattle.wtf_imagefmt.specs.Texts.{magic}
+use Rattle.wtf_imagefmt.specs.Texts.{magic_of}
 use Rattle.wtf_imagefmt.specs.Shapes.{ascends, path_before, file_before, region_before}
 
 abbrev pub make_spill : ℕ × (ℕ × List Pointer) → BaseRow
@@ -85,23 +87,28 @@ path_records_at = only_at (ascends path_before) (counted_at w32 path_at)
 unfoldable pub files_at : Reader (List FileRow)
 files_at = only_at (ascends file_before) (counted_at w32 file_at)
 
+-- the first bytes of an image of one version or the other
 abbrev pub is_magic : List ℕ → Bool
-is_magic text = bytes_eq text magic
+is_magic text = bytes_eq text (magic_of One) || bytes_eq text (magic_of Two)
 
-unfoldable pub magic_at : Reader (List ℕ)
-magic_at = only_at is_magic (text_at 8)
+abbrev pub version_of : List ℕ → Version
+version_of text = if bytes_eq text (magic_of One) then One else Two
+
+unfoldable pub version_at : Reader Version
+version_at = as_at version_of (only_at is_magic (text_at 8))
 
 abbrev pub make_header : ℕ × (ℕ × (ℕ × (ℕ × ℕ))) → Header
 make_header x = record { servers = x.0; replicas = x.1.0; region = x.1.1.0; installs = x.1.1.1.0; next_tx = x.1.1.1.1 }
 
 unfoldable pub header_at : Reader Header
-header_at = as_at make_header (then_at byte_at (λ servers. then_at byte_at (λ replicas. then_at (number_at w32) (λ region. then_at (number_at w64) (λ installs. number_at w64)))))
+header_at = as_at make_header (then_at byte_at (λ servers. then_at byte_at
+    (λ replicas. then_at (number_at w32) (λ region. then_at (number_at w64) (λ installs. number_at w64)))))
 
-abbrev pub make_image : List ℕ × (Header × (List PathRecord × List FileRow)) → ImageRows
-make_image x = record { header = x.1.0; paths = x.1.1.0; files = x.1.1.1 }
+abbrev pub make_image : Version × (Header × (List PathRecord × List FileRow)) → ImageRows
+make_image x = record { version = x.0; header = x.1.0; paths = x.1.1.0; files = x.1.1.1 }
 
 unfoldable pub image_at : Reader ImageRows
-image_at = as_at make_image (then_at magic_at (λ m. then_at header_at (λ h. then_at path_records_at (λ ps. files_at))))
+image_at = as_at make_image (then_at version_at (λ v. then_at header_at (λ h. then_at path_records_at (λ ps. files_at))))
 
 -- all of the bytes
 unfoldable pub image_of : List ℕ → Option ImageRows

@@ -6,6 +6,7 @@ use Rattle.wtf_base.specs.Slices.{pointers_of, len_of}
 pub use Rattle.wtf_overlay.specs.Rows.{EntryRow, part_row, entry_row, entry_rows}
 use Rattle.wtf_values.specs.declared.region.RegionValue.{RegionValue}
 use Rattle.wtf_values.specs.declared.region.Spill.{Spill}
+use Rattle.wtf_imagefmt.specs.declared.records.Version.{Version}
 use Rattle.wtf_imagefmt.specs.declared.records.Header.{Header}
 use Rattle.wtf_imagefmt.specs.declared.records.PathRecord.{PathRecord}
 use Rattle.wtf_imagefmt.specs.declared.records.RegionRecord.{RegionRecord}
@@ -37,8 +38,9 @@ pub record FileRow : Type 0 where
   pub last : ℕ
   pub regions : List RegionRow
 
--- an image: the settings and the two numbers, what stands at each path, and the files
+-- an image: its version, the settings and the two numbers, what stands at each path, and the files
 pub record ImageRows : Type 0 where
+  pub version : Version
   pub header : Header
   pub paths : List PathRecord
   pub files : List FileRow
@@ -67,4 +69,4 @@ abbrev pub file_rows : List FileRecord → List FileRow
 file_rows fs = map file_row fs
 
 abbrev pub image_rows : Image → ImageRows
-image_rows x = record { header = x.header; paths = x.paths.items; files = file_rows x.files.items }
+image_rows x = record { version = x.version; header = x.header; paths = x.paths.items; files = file_rows x.files.items }

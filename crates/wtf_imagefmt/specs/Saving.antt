@@ -10,13 +10,14 @@ use Rattle.wtf_values.specs.declared.key.Key.{Key}
 use Rattle.wtf_values.specs.declared.key.Key.TheVariants.{Path, Inode, Region}
 use Rattle.wtf_values.specs.declared.value.Node.{Node}
 use Rattle.wtf_values.specs.declared.value.Value.{Value}
+use Rattle.wtf_imagefmt.specs.declared.records.Version.TheVariants.{Two}
 use Rattle.wtf_imagefmt.specs.declared.records.Header.{Header}
 use Rattle.wtf_imagefmt.specs.declared.records.PathRecord.{PathRecord}
 use Rattle.wtf_imagefmt.specs.Rows.{RegionRow, FileRow, ImageRows}
 use Rattle.wtf_imagefmt.specs.Shapes.{ascends, path_before, file_before}
 use Rattle.wtf_imagefmt.specs.Images.{HasText}
 use Rattle.wtf_imagefmt.specs.Shapes.{AreRegionsAscending}
-use Rattle.wtf_imagefmt.specs.Lookups.{Plain, NodeIs, NamesAre, LastIs, RegionIs, plain, node_at}
+use Rattle.wtf_imagefmt.specs.Lookups.{Plain, NodeIs, NamesAre, LastIs, RegionIs, CountIs, plain, node_at}
 use Rattle.wtf_imagefmt.specs.Shown.{Shown, shown}
 
 -- what a path's value says that stands there
@@ -24,6 +25,7 @@ abbrev pub node_now : Option Plain → Option Node
 node_now None = None
 node_now (Some (NodeIs n)) = Some n
 node_now (Some (NamesAre names)) = None
+node_now (Some (CountIs n)) = None
 node_now (Some (LastIs n)) = None
 node_now (Some (RegionIs end base entries)) = None
 
@@ -32,6 +34,7 @@ abbrev pub last_now : Option Plain → Option ℕ
 last_now None = None
 last_now (Some (NodeIs n)) = None
 last_now (Some (NamesAre names)) = None
+last_now (Some (CountIs n)) = None
 last_now (Some (LastIs n)) = Some n
 last_now (Some (RegionIs end base entries)) = None
 
@@ -40,6 +43,7 @@ abbrev pub region_now : ℕ → Option Plain → Option RegionRow
 region_now r None = None
 region_now r (Some (NodeIs n)) = None
 region_now r (Some (NamesAre names)) = None
+region_now r (Some (CountIs n)) = None
 region_now r (Some (LastIs n)) = None
 region_now r (Some (RegionIs end base entries)) = Some (record { number = r; end = end; base = base; entries = entries })
 
@@ -94,9 +98,14 @@ pub record Says (m : Shown) (x : ImageRows) : Type 0 where
 abbrev pub header_of : Settings → ℕ → ℕ → Header
 header_of s installs next_tx = record { servers = s.servers; replicas = s.replicas; region = s.region; installs = installs; next_tx = next_tx }
 
--- the bytes are the image of a store at its number
+-- the same image in the second version
+abbrev pub as_second : ImageRows → ImageRows
+as_second x = record { version = Two; header = x.header; paths = x.paths; files = x.files }
+
+-- the bytes are the image of a store at its number, of the second version
 pub record IsSaveOf (kv : Store Key Value) (s : Settings) (next_tx : ℕ) (bytes : List ℕ) : Type 0 where
   pub rows : ImageRows
   pub text : HasText rows bytes
+  pub version : rows.version ≡ Two
   pub header : rows.header ≡ header_of s kv.number next_tx
   pub says : Says (shown kv) rows

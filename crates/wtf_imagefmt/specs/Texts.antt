@@ -6,6 +6,8 @@ use Rattle.wtf_base.specs.declared.ids.InodeId.{InodeId}
 use Rattle.wtf_overlay.specs.Texts.{slice_text, entries_text}
 use Rattle.wtf_values.specs.declared.value.Node.{Node}
 use Rattle.wtf_values.specs.declared.value.Node.TheVariants.{Folder, File}
+use Rattle.wtf_imagefmt.specs.declared.records.Version.{Version}
+use Rattle.wtf_imagefmt.specs.declared.records.Version.TheVariants.{One, Two}
 use Rattle.wtf_imagefmt.specs.declared.records.Header.{Header}
 use Rattle.wtf_imagefmt.specs.declared.records.PathRecord.{PathRecord}
 use Rattle.wtf_imagefmt.specs.Rows.{BaseRow, ValueRow, RegionRow, FileRow, ImageRows}
@@ -56,13 +58,14 @@ path_text r = name_text r.path ++ node_text r.node
 unfoldable pub paths_text : List PathRecord → List ℕ
 paths_text rs = to_be_bytes w32 (length rs) ++ flat_map path_text rs
 
--- the first bytes of every image
-abbrev pub magic : List ℕ
-magic = codes "WTFIMG01"
+-- the first bytes of an image, by its version
+abbrev pub magic_of : Version → List ℕ
+magic_of One = codes "WTFIMG01"
+magic_of Two = codes "WTFIMG02"
 
 -- servers, replicas, the size of a region, the number of installs, and that of the next transaction
 unfoldable pub header_text : Header → List ℕ
 header_text h = (h.servers ∷ []) ++ ((h.replicas ∷ []) ++ (to_be_bytes w32 h.region ++ (to_be_bytes w64 h.installs ++ to_be_bytes w64 h.next_tx)))
 
 unfoldable pub image_text : ImageRows → List ℕ
-image_text x = magic ++ (header_text x.header ++ (paths_text x.paths ++ files_text x.files))
+image_text x = magic_of x.version ++ (header_text x.header ++ (paths_text x.paths ++ files_text x.files))

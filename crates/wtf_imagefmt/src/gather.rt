@@ -48,7 +48,7 @@ fn add_path(
     Ok(())
 }
 
-/// The files, in the order of inodes, behind which only regions come.
+/// The files, in the order of inodes, behind which only regions and numbers of paths come.
 pub fn files_now(alloc: Global, kv: &Kv<Key, Value>) -> Result<Vec<FileRecord>, OutOfMemory>
     ensures { IfOk result (λ v. AreFilesOf (shown kv.now) (file_rows v.items)) }
 {

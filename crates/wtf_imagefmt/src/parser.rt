@@ -4,16 +4,15 @@
 
 ghost use Rattle.std.specs.Prelude.{◌≡◌, Some, IfOk, MatchOption};
 ghost use Rattle.wtf_path.specs.Refusals.{number_of as path_number};
-ghost use Rattle.wtf_spillfmt.specs.Gives.{Gives};
+ghost use Rattle.wtf_spillfmt.specs.Parses.{Parses};
 ghost use Rattle.wtf_overlay.specs.Reading.{many_at, text_at};
 ghost use Rattle.wtf_values.specs.Bases.{IsBelow};
 ghost use Rattle.wtf_imagefmt.specs.Rows.{spill_row, base_row, value_row, region_row, region_rows, file_row, file_rows, image_rows};
-ghost use Rattle.wtf_imagefmt.specs.Texts.{magic};
-ghost use Rattle.wtf_imagefmt.specs.Reading.{spill_at, base_at, value_at, region_at, inode_at, file_at, node_at, name_at, path_by, path_at, path_records_at, files_at, magic_at, header_at, image_of};
+ghost use Rattle.wtf_imagefmt.specs.Reading.{spill_at, base_at, value_at, region_at, inode_at, file_at, node_at, name_at, path_by, path_at, path_records_at, files_at, version_at, header_at, image_of};
 
 use crate::order::{files_ascend, paths_ascend, regions_ascend};
 use crate::reader::{list_of, u16_at};
-use crate::records::{FileRecord, Header, Image, PathRecord, RegionRecord};
+use crate::records::{FileRecord, Header, Image, PathRecord, RegionRecord, Version};
 use std::alloc::Global;
 use wtf_base::{InodeId, TxId};
 use wtf_path::{Path, PathError};
@@ -23,7 +22,7 @@ use wtf_values::{Node, RegionValue, Spill};
 /// The spilled list of a region that ends at `end`: something of it is seen, and nothing past the end.
 #[tactic(auto, unfolding(crate::specs::Reading::spill_at))]
 fn spill_of(end: u32, bytes: &[u8]) -> Result<(Spill, &[u8]), ListError>
-    ensures value { Gives (λ x. (spill_row x.0, x.1.now)) result (spill_at end bytes.now) }
+    ensures value { Parses (λ x. (spill_row x.0, x.1.now)) result (spill_at end bytes.now) }
     ensures below { IfOk result (λ x. IsBelow end (Some x.0)) }
 {
     let (visible, rest) = u32_at(bytes)?;
@@ -38,7 +37,7 @@ fn spill_of(end: u32, bytes: &[u8]) -> Result<(Spill, &[u8]), ListError>
 /// The spilled list of a region that ends at `end`, if it has one.
 #[tactic(auto, unfolding(crate::specs::Reading::base_at))]
 fn base_of(end: u32, bytes: &[u8]) -> Result<(Option<Spill>, &[u8]), ListError>
-    ensures value { Gives (λ x. (base_row x.0, x.1.now)) result (base_at end bytes.now) }
+    ensures value { Parses (λ x. (base_row x.0, x.1.now)) result (base_at end bytes.now) }
     ensures below { IfOk result (λ x. IsBelow end x.0) }
 {
     let (kind, rest) = u8_at(bytes)?;
@@ -55,7 +54,7 @@ fn base_of(end: u32, bytes: &[u8]) -> Result<(Option<Spill>, &[u8]), ListError>
 /// The value of a region, whose entries lie inside it.
 #[tactic(auto, unfolding(crate::specs::Reading::value_at))]
 pub fn value_of(alloc: Global, bytes: &[u8]) -> Result<(RegionValue, &[u8]), ListError>
-    ensures { Gives (λ x. (value_row x.0, x.1.now)) result (value_at bytes.now) }
+    ensures { Parses (λ x. (value_row x.0, x.1.now)) result (value_at bytes.now) }
 {
     let (end, rest) = u32_at(bytes)?;
     let (base, rest) = base_of(end, rest)?;
@@ -67,7 +66,7 @@ pub fn value_of(alloc: Global, bytes: &[u8]) -> Result<(RegionValue, &[u8]), Lis
 /// A region behind its number.
 #[tactic(auto, unfolding(crate::specs::Reading::region_at))]
 fn region_of(alloc: Global, bytes: &[u8]) -> Result<(RegionRecord, &[u8]), ListError>
-    ensures { Gives (λ x. (region_row x.0, x.1.now)) result (region_at bytes.now) }
+    ensures { Parses (λ x. (region_row x.0, x.1.now)) result (region_at bytes.now) }
 {
     let (number, rest) = u16_at(bytes)?;
     let (value, rest) = value_of(alloc, rest)?;
@@ -80,7 +79,7 @@ fn regions_of(
     count: u16,
     bytes: &[u8],
 ) -> Result<(Vec<RegionRecord>, &[u8]), ListError>
-    ensures { Gives (λ x. (region_rows x.0.items, x.1.now)) result
+    ensures { Parses (λ x. (region_rows x.0.items, x.1.now)) result
         (many_at region_at count bytes.now) }
 {
     let mut regions = Vec::new(alloc);
@@ -96,7 +95,7 @@ fn regions_of(
 /// An inode: its transaction, and its index.
 #[tactic(auto, unfolding(crate::specs::Reading::inode_at))]
 pub fn inode_of(bytes: &[u8]) -> Result<(InodeId, &[u8]), ListError>
-    ensures { Gives (λ x. (x.0, x.1.now)) result (inode_at bytes.now) }
+    ensures { Parses (λ x. (x.0, x.1.now)) result (inode_at bytes.now) }
 {
     let (tx, rest) = u64_at(bytes)?;
     let (index, rest) = u32_at(rest)?;
@@ -110,7 +109,7 @@ pub fn inode_of(bytes: &[u8]) -> Result<(InodeId, &[u8]), ListError>
 /// A file, whose regions ascend.
 #[tactic(auto, unfolding(crate::specs::Reading::file_at))]
 fn file_of(alloc: Global, bytes: &[u8]) -> Result<(FileRecord, &[u8]), ListError>
-    ensures { Gives (λ x. (file_row x.0, x.1.now)) result (file_at bytes.now) }
+    ensures { Parses (λ x. (file_row x.0, x.1.now)) result (file_at bytes.now) }
 {
     let (inode, rest) = inode_of(bytes)?;
     let (last, rest) = u16_at(rest)?;
@@ -133,7 +132,7 @@ fn some_files_of(
     count: u32,
     bytes: &[u8],
 ) -> Result<(Vec<FileRecord>, &[u8]), ListError>
-    ensures { Gives (λ x. (file_rows x.0.items, x.1.now)) result
+    ensures { Parses (λ x. (file_rows x.0.items, x.1.now)) result
         (many_at file_at count bytes.now) }
 {
     let mut files = Vec::new(alloc);
@@ -149,7 +148,7 @@ fn some_files_of(
 /// The files, which ascend, behind their number.
 #[tactic(auto, unfolding(crate::specs::Reading::files_at))]
 fn files_of(alloc: Global, bytes: &[u8]) -> Result<(Vec<FileRecord>, &[u8]), ListError>
-    ensures { Gives (λ x. (file_rows x.0.items, x.1.now)) result (files_at bytes.now) }
+    ensures { Parses (λ x. (file_rows x.0.items, x.1.now)) result (files_at bytes.now) }
 {
     let (count, rest) = u32_at(bytes)?;
     let (files, rest) = some_files_of(alloc, count, rest)?;
@@ -162,7 +161,7 @@ fn files_of(alloc: Global, bytes: &[u8]) -> Result<(Vec<FileRecord>, &[u8]), Lis
 /// What stands at a path: 0 for a directory, 1 and the inode for a file.
 #[tactic(auto, unfolding(crate::specs::Reading::node_at))]
 fn node_of(bytes: &[u8]) -> Result<(Node, &[u8]), ListError>
-    ensures { Gives (λ x. (x.0, x.1.now)) result (node_at bytes.now) }
+    ensures { Parses (λ x. (x.0, x.1.now)) result (node_at bytes.now) }
 {
     let (kind, rest) = u8_at(bytes)?;
     match kind {
@@ -178,7 +177,7 @@ fn node_of(bytes: &[u8]) -> Result<(Node, &[u8]), ListError>
 /// So many bytes.
 #[tactic(auto, unfolding(wtf_overlay::specs::Reading::text_at))]
 fn text_of(len: u16, bytes: &[u8]) -> Result<(&[u8], &[u8]), ListError>
-    ensures { Gives (λ x. (x.0.now, x.1.now)) result (text_at len bytes.now) }
+    ensures { Parses (λ x. (x.0.now, x.1.now)) result (text_at len bytes.now) }
 {
     let len = len as usize;
     if bytes.len() < len {
@@ -189,7 +188,7 @@ fn text_of(len: u16, bytes: &[u8]) -> Result<(&[u8], &[u8]), ListError>
 
 /// The path that a text spells.
 fn path_by(alloc: Global, text: &[u8]) -> Result<Path, ListError>
-    ensures { Gives (λ path. path) result (path_by text.now) }
+    ensures { Parses (λ path. path) result (path_by text.now) }
 {
     match Path::parse(alloc, text) {
         Ok(path) => Ok(path),
@@ -211,7 +210,7 @@ fn no_path(why: PathError) -> ListError
 /// A path behind its length.
 #[tactic(auto, unfolding(crate::specs::Reading::name_at))]
 pub fn name_of(alloc: Global, bytes: &[u8]) -> Result<(Path, &[u8]), ListError>
-    ensures { Gives (λ x. (x.0, x.1.now)) result (name_at bytes.now) }
+    ensures { Parses (λ x. (x.0, x.1.now)) result (name_at bytes.now) }
 {
     let (len, rest) = u16_at(bytes)?;
     let (text, rest) = text_of(len, rest)?;
@@ -222,7 +221,7 @@ pub fn name_of(alloc: Global, bytes: &[u8]) -> Result<(Path, &[u8]), ListError>
 /// A path, and what stands there.
 #[tactic(auto, unfolding(crate::specs::Reading::path_at))]
 fn path_of(alloc: Global, bytes: &[u8]) -> Result<(PathRecord, &[u8]), ListError>
-    ensures { Gives (λ x. (x.0, x.1.now)) result (path_at bytes.now) }
+    ensures { Parses (λ x. (x.0, x.1.now)) result (path_at bytes.now) }
 {
     let (path, rest) = name_of(alloc, bytes)?;
     let (node, rest) = node_of(rest)?;
@@ -235,7 +234,7 @@ fn some_paths_of(
     count: u32,
     bytes: &[u8],
 ) -> Result<(Vec<PathRecord>, &[u8]), ListError>
-    ensures { Gives (λ x. (x.0.items, x.1.now)) result (many_at path_at count bytes.now) }
+    ensures { Parses (λ x. (x.0.items, x.1.now)) result (many_at path_at count bytes.now) }
 {
     let mut paths = Vec::new(alloc);
     let mut rest = bytes;
@@ -250,7 +249,7 @@ fn some_paths_of(
 /// The paths, which ascend, behind their number.
 #[tactic(auto, unfolding(crate::specs::Reading::path_records_at))]
 fn paths_of(alloc: Global, bytes: &[u8]) -> Result<(Vec<PathRecord>, &[u8]), ListError>
-    ensures { Gives (λ x. (x.0.items, x.1.now)) result (path_records_at bytes.now) }
+    ensures { Parses (λ x. (x.0.items, x.1.now)) result (path_records_at bytes.now) }
 {
     let (count, rest) = u32_at(bytes)?;
     let (paths, rest) = some_paths_of(alloc, count, rest)?;
@@ -260,22 +259,25 @@ fn paths_of(alloc: Global, bytes: &[u8]) -> Result<(Vec<PathRecord>, &[u8]), Lis
     Ok((paths, rest))
 }
 
-/// The first bytes of every image; it gives what stands behind them.
-#[tactic(auto, unfolding(crate::specs::Reading::magic_at))]
-fn magic_of(bytes: &[u8]) -> Result<&[u8], ListError>
-    ensures { Gives (λ x. (magic, x.now)) result (magic_at bytes.now) }
+/// The version of an image, by its first bytes.
+#[tactic(auto, unfolding(crate::specs::Reading::version_at))]
+fn version_of(bytes: &[u8]) -> Result<(Version, &[u8]), ListError>
+    ensures { Parses (λ x. (x.0, x.1.now)) result (version_at bytes.now) }
 {
     let (front, rest) = text_of(8, bytes)?;
-    if front != b"WTFIMG01".as_slice() {
-        return Err(ListError::NotAList);
+    if front == b"WTFIMG01".as_slice() {
+        return Ok((Version::One, rest));
     }
-    Ok(rest)
+    if front == b"WTFIMG02".as_slice() {
+        return Ok((Version::Two, rest));
+    }
+    Err(ListError::NotAList)
 }
 
 /// The settings and the two numbers, whether or not they keep their limits.
 #[tactic(auto, unfolding(crate::specs::Reading::header_at))]
 fn header_of(bytes: &[u8]) -> Result<(Header, &[u8]), ListError>
-    ensures { Gives (λ x. (x.0, x.1.now)) result (header_at bytes.now) }
+    ensures { Parses (λ x. (x.0, x.1.now)) result (header_at bytes.now) }
 {
     let (servers, rest) = u8_at(bytes)?;
     let (replicas, rest) = u8_at(rest)?;
@@ -295,9 +297,9 @@ fn header_of(bytes: &[u8]) -> Result<(Header, &[u8]), ListError>
 /// An image, with no byte behind it.
 #[tactic(auto, unfolding(crate::specs::Reading::image_of, crate::specs::Reading::image_at))]
 pub fn image_of(alloc: Global, bytes: &[u8]) -> Result<Image, ListError>
-    ensures { Gives image_rows result (image_of bytes.now) }
+    ensures { Parses image_rows result (image_of bytes.now) }
 {
-    let rest = magic_of(bytes)?;
+    let (version, rest) = version_of(bytes)?;
     let (header, rest) = header_of(rest)?;
     let (paths, rest) = paths_of(alloc, rest)?;
     let (files, rest) = files_of(alloc, rest)?;
@@ -305,6 +307,7 @@ pub fn image_of(alloc: Global, bytes: &[u8]) -> Result<Image, ListError>
         return Err(ListError::NotAList);
     }
     Ok(Image {
+        version,
         header,
         paths,
         files,

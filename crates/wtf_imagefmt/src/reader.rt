@@ -4,7 +4,7 @@ ghost use Rattle.std.specs.Prelude.{◌≡◌, IfOk};
 ghost use Rattle.std.specs.Int.{w16};
 ghost use Rattle.wtf_overlay.specs.Clips.{Within};
 ghost use Rattle.wtf_overlay.specs.Reading.{number_at, entry_at, many_at};
-ghost use Rattle.wtf_spillfmt.specs.Gives.{Gives};
+ghost use Rattle.wtf_spillfmt.specs.Parses.{Parses};
 ghost use Rattle.wtf_imagefmt.specs.Rows.{entry_rows};
 
 use std::alloc::Global;
@@ -15,7 +15,7 @@ use wtf_spillfmt::{ListError, entries_of};
 /// A number of two bytes.
 #[tactic(auto, unfolding(wtf_overlay::specs::Reading::number_at))]
 pub fn u16_at(bytes: &[u8]) -> Result<(u16, &[u8]), ListError>
-    ensures { Gives (λ x. (x.0, x.1.now)) result (number_at w16 bytes.now) }
+    ensures { Parses (λ x. (x.0, x.1.now)) result (number_at w16 bytes.now) }
 {
     if bytes.len() < 2 {
         return Err(ListError::NotAList);
@@ -31,7 +31,7 @@ pub fn list_of(
     count: u32,
     bytes: &[u8],
 ) -> Result<(Overlay, &[u8]), ListError>
-    ensures value { Gives (λ x. (entry_rows x.0, x.1.now)) result
+    ensures value { Parses (λ x. (entry_rows x.0, x.1.now)) result
         (many_at (entry_at end) count bytes.now) }
     ensures within { IfOk result (λ x. Within end x.0) }
 {

@@ -4,6 +4,14 @@ use wtf_base::InodeId;
 use wtf_path::Path;
 use wtf_values::{Node, RegionValue};
 
+/// Which rule the names of files keep: in the first version a file has one path, in the second it may
+/// have several. All else is the same.
+#[derive(Clone, Copy)]
+pub enum Version {
+    One,
+    Two,
+}
+
 /// The settings as they stand in the image, and its two numbers.
 #[derive(Clone, Copy)]
 pub struct Header {
@@ -42,6 +50,7 @@ pub struct FileRecord {
 /// An image that was read, or is to be written.
 #[derive(Drop)]
 pub struct Image {
+    pub version: Version,
     pub header: Header,
     pub paths: Vec<PathRecord>,
     pub files: Vec<FileRecord>,

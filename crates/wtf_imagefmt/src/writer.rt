@@ -1,7 +1,7 @@
 //! The text of an image, record by record. What was written has the widths of its fields; where a
 //! count is too great for its width, it is refused as want of memory.
 
-ghost use Rattle.std.specs.Prelude.{◌≡◌, ◌<◌, ◌^◌, Some, OnOk, IfOk};
+ghost use Rattle.std.specs.Prelude.{◌≡◌, ◌<◌, ◌^◌, ⊤, Some, OnOk, IfOk};
 ghost use Rattle.std.specs.Int.{w16, to_be_bytes};
 ghost use Rattle.wtf_path.specs.Grammar.{IsPath};
 ghost use Rattle.wtf_overlay.specs.Clips.{Within};
@@ -10,11 +10,11 @@ ghost use Rattle.wtf_overlay.specs.Shapes.{AreEntries};
 ghost use Rattle.wtf_spillfmt.specs.Writing.{Writes};
 ghost use Rattle.wtf_values.specs.Bases.{IsBelow};
 ghost use Rattle.wtf_imagefmt.specs.Rows.{entry_rows, spill_row, base_row, value_row, region_row, region_rows, file_row, file_rows, image_rows};
-ghost use Rattle.wtf_imagefmt.specs.Texts.{spill_text, base_text, value_text, region_text, regions_text, inode_text, file_text, files_text, node_text, name_text, path_text, paths_text, header_text, image_text};
+ghost use Rattle.wtf_imagefmt.specs.Texts.{spill_text, base_text, value_text, region_text, regions_text, inode_text, file_text, files_text, node_text, name_text, path_text, paths_text, magic_of, header_text, image_text};
 ghost use Rattle.wtf_imagefmt.specs.Shapes.{IsSpill, IsBase, IsValue, IsRegion, IsInode, IsNode, IsPathRow, IsHeader};
 ghost use Rattle.wtf_imagefmt.specs.Writing.{AreRegions, IsWideFile, AreWideFiles, AreWidePaths, IsWide};
 
-use crate::records::{FileRecord, Header, Image, PathRecord, RegionRecord};
+use crate::records::{FileRecord, Header, Image, PathRecord, RegionRecord, Version};
 use std::alloc::Global;
 use wtf_base::{InodeId, OutOfMemory};
 use wtf_overlay::Overlay;
@@ -215,6 +215,22 @@ fn put_header(out: &mut Vec<u8>, header: Header) -> Result<(), OutOfMemory>
     Ok(())
 }
 
+/// The first bytes of an image of a version.
+fn put_version(out: &mut Vec<u8>, version: Version) -> Result<(), OutOfMemory>
+    ensures { OnOk result (Writes out.old.items out.new.items (magic_of version) ⊤) }
+{
+    match version {
+        Version::One => {
+            out.extend_from_slice(b"WTFIMG01")?;
+            return Ok(());
+        }
+        Version::Two => {
+            out.extend_from_slice(b"WTFIMG02")?;
+            return Ok(());
+        }
+    }
+}
+
 /// The text of an image. Where there are too many records to be counted it answers want of memory.
 #[tactic(auto, unfolding(crate::specs::Texts::image_text))]
 pub fn write(alloc: Global, image: &Image) -> Result<Vec<u8>, OutOfMemory>
@@ -222,7 +238,7 @@ pub fn write(alloc: Global, image: &Image) -> Result<Vec<u8>, OutOfMemory>
     ensures wide { OnOk result (IsWide (image_rows image.now)) }
 {
     let mut out = Vec::new(alloc);
-    out.extend_from_slice(b"WTFIMG01")?;
+    put_version(&mut out, image.version)?;
     put_header(&mut out, image.header)?;
     put_paths(&mut out, image.paths.as_slice())?;
     put_files(&mut out, image.files.as_slice())?;

@@ -9,7 +9,8 @@ use Rattle.std.proofs.lemmas.Cmp.{nat_cmp_total}
 use Rattle.std.specs.BTreeMap.{insert_entry}
 use Rattle.std.specs.FinMap.Entries.{below_all, is_sorted}
 use Rattle.wtf_imagefmt.specs.Rows.{ValueRow}
-use Rattle.wtf_changes.specs.Drafts.{DraftRows, file_taken, file_written, node_taken, path_written, region_written, regions_taken, set_all, taken, value_taken, written}
+use Rattle.wtf_changes.specs.Drafts.{DraftRows, file_taken, file_written, node_taken, path_written, region_written, regions_taken, set_all, taken, value_taken}
+use Rattle.wtf_changes.specs.Drafts.{written}
 use Rattle.wtf_changes.proofs.Drafts.{IsSortedDraft}
 use Rattle.wtf_changes.proofs.Files.{Entries, InOrder, inode_total}
 use Rattle.wtf_changes.proofs.Sets.{first, second}

@@ -1,5 +1,6 @@
 -- What writes within a range leave a store that tells its settled bytes.
-use Rattle.std.specs.Prelude.{◌≡◌, ◌⊎◌, ◌<◌, ◌≤◌, ◌+◌, ◌^◌, ◌-◌, ◌&&◌, ℕ, Bool, true, false, min, nat_lt, if◌then◌else◌, Option, None, Some, List, [], ◌∷◌, length, slice_get, refl, Result, Ok, Err, OnOk, OnErr}
+use Rattle.std.specs.Prelude.{◌≡◌, ◌⊎◌, ◌<◌, ◌≤◌, ◌+◌, ◌^◌, ◌-◌, ◌&&◌, ℕ, Bool, true, false, min, nat_lt, if◌then◌else◌, Option, None, Some, List, [], ◌∷◌}
+use Rattle.std.specs.Prelude.{length, slice_get, refl, Result, Ok, Err, OnOk, OnErr}
 use Rattle.wtf_dev.specs.Counts.{Rose}
 use Rattle.std.proofs.Common.{arith, ◌∙◌, sym, ap, subst, inl, inr}
 use Rattle.std.proofs.lemmas.Bool.{and_from, cases_eq, cases_lt, lt-ltb}

@@ -1,7 +1,8 @@
 -- What a keeper that appends images says more than a keeper has to.
 use Rattle.std.specs.Prelude.{if◌then◌else◌, Option, None, Some, Result, Ok, Err}
 use Rattle.std.specs.Result.{is_ok}
-use Rattle.std.proofs.Common.{◌≡◌, ◌<◌, ◌≤◌, ◌+◌, ◌∙◌, ◌++◌, ◌⊎◌, ℕ, Bool, true, false, List, [], ◌∷◌, length, take, drop, inl, inr, refl, sym, ap, subst, arith, append_assoc, append-nil, length-append}
+use Rattle.std.proofs.Common.{◌≡◌, ◌<◌, ◌≤◌, ◌+◌, ◌∙◌, ◌++◌, ◌⊎◌, ℕ, Bool, true, false, List, [], ◌∷◌, length, take, drop, inl, inr, refl, sym, ap, subst}
+use Rattle.std.proofs.Common.{arith, append_assoc, append-nil, length-append}
 use Rattle.std.specs.Int.{w64, to_be_bytes}
 use Rattle.std.proofs.lemmas.List.{drop-take, drop_at, length-take-le, take_all, take_at}
 use Rattle.std.proofs.lemmas.List.Elements.{All-cons, All-nil, Contains-push}
@@ -13,7 +14,7 @@ use Rattle.wtf_imagefmt.specs.declared.records.Image.{Image}
 use Rattle.wtf_imagefmt.specs.Reading.{image_of}
 use Rattle.wtf_imagefmt.specs.Rows.{image_rows}
 use Rattle.wtf_spillfmt.specs.declared.error.ListError.{ListError}
-use Rattle.wtf_spillfmt.specs.Gives.{Gives}
+use Rattle.wtf_spillfmt.specs.Parses.{Parses}
 use Rattle.wtf_spillfmt.proofs.Codecs.{IsBytes}
 use Rattle.wtf_journal.specs.declared.keeper.JournalKeeper.{JournalKeeper}
 use Rattle.wtf_journal.specs.Held.{Held, held_by}
@@ -84,7 +85,7 @@ held_same true false x y is same = absurd (cc is)
 held_same false true x y is same = absurd (cc is)
 
 -- bytes that are read as an image are one
-pub read_image : (r : Result Image ListError) (bytes : List ℕ) → IsBytes bytes → Gives image_rows r (image_of bytes) → is_ok r ≡ true → IsSomeImage bytes
+pub read_image : (r : Result Image ListError) (bytes : List ℕ) → IsBytes bytes → Parses image_rows r (image_of bytes) → is_ok r ≡ true → IsSomeImage bytes
 read_image (Ok x) bytes fits reads is = record { rows = image_rows x; text = text_as bytes (image_rows x) fits reads }
 read_image (Err why) bytes fits reads is = absurd (cc is)
 

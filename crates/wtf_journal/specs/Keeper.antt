@@ -154,8 +154,8 @@ module _ {D : Type 0} (kind : DiskKind D) (laws : DiskLaws kind) (a b c : Journa
     fails = λ is. q.fails (p.fails is);
     cause = cause_on;
     rests = λ tells bodies rests is.
-        let first = p.rests tells bodies rests (whole is) in
-        adds_on bodies first (q.rests (p.goes_on.tells ∙ tells) (bodies ++ map image_body first.added) first.rests is);
+        let first = p.rests tells bodies rests (whole is)
+        in adds_on bodies first (q.rests (p.goes_on.tells ∙ tells) (bodies ++ map image_body first.added) first.rests is);
     moments = λ tells sane.
         let still = p.goes_on.tells ∙ tells in
         let first = p.moments tells sane in

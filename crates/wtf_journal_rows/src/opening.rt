@@ -7,25 +7,33 @@ use wtf_journal::{Journal, JournalFault};
 
 /// An image of 4 servers, 2 replicas, regions of 65,536 bytes, no install and next transaction 1: the root alone.
 pub(crate) const ROOT: [u8; 42] = [
-    87, 84, 70, 73, 77, 71, 48, 49, 4, 2, 0, 1, 0, 0, 0, 0, 0, 0, 0, 0, 0, 0, 0, 0, 0, 0, 0, 0, 0,
+    87, 84, 70, 73, 77, 71, 48, 50, 4, 2, 0, 1, 0, 0, 0, 0, 0, 0, 0, 0, 0, 0, 0, 0, 0, 0, 0, 0, 0,
     1, 0, 0, 0, 1, 0, 1, 47, 0, 0, 0, 0, 0,
 ];
 
 /// The same with 1 install, next transaction 2 and `/a`, a file whose last region is 0, of which nothing is there.
 pub(crate) const MADE: [u8; 75] = [
-    87, 84, 70, 73, 77, 71, 48, 49, 4, 2, 0, 1, 0, 0, 0, 0, 0, 0, 0, 0, 0, 1, 0, 0, 0, 0, 0, 0, 0,
+    87, 84, 70, 73, 77, 71, 48, 50, 4, 2, 0, 1, 0, 0, 0, 0, 0, 0, 0, 0, 0, 1, 0, 0, 0, 0, 0, 0, 0,
     2, 0, 0, 0, 2, 0, 1, 47, 0, 0, 2, 47, 97, 1, 0, 0, 0, 0, 0, 0, 0, 1, 0, 0, 0, 1, 0, 0, 0, 1, 0,
     0, 0, 0, 0, 0, 0, 1, 0, 0, 0, 1, 0, 0, 0, 0,
 ];
 
 /// A journal of a record with the first image.
 const ONE: [u8; 53] = [
-    1, 0, 0, 0, 0, 0, 0, 0, 43, 0, 87, 84, 70, 73, 77, 71, 48, 49, 4, 2, 0, 1, 0, 0, 0, 0, 0, 0, 0,
+    1, 0, 0, 0, 0, 0, 0, 0, 43, 0, 87, 84, 70, 73, 77, 71, 48, 50, 4, 2, 0, 1, 0, 0, 0, 0, 0, 0, 0,
     0, 0, 0, 0, 0, 0, 0, 0, 0, 0, 1, 0, 0, 0, 1, 0, 1, 47, 0, 0, 0, 0, 0, 0,
 ];
 
 /// And behind it a record of the changes that make the second one of it.
 const TWO: [u8; 123] = [
+    1, 0, 0, 0, 0, 0, 0, 0, 43, 0, 87, 84, 70, 73, 77, 71, 48, 50, 4, 2, 0, 1, 0, 0, 0, 0, 0, 0, 0,
+    0, 0, 0, 0, 0, 0, 0, 0, 0, 0, 1, 0, 0, 0, 1, 0, 1, 47, 0, 0, 0, 0, 0, 1, 0, 0, 0, 0, 0, 0, 0,
+    61, 1, 0, 0, 0, 0, 0, 0, 0, 1, 0, 0, 0, 0, 0, 0, 0, 2, 0, 0, 0, 1, 0, 2, 47, 97, 1, 0, 0, 0, 0,
+    0, 0, 0, 1, 0, 0, 0, 1, 0, 0, 0, 1, 0, 0, 0, 0, 0, 0, 0, 1, 0, 0, 0, 1, 1, 0, 0, 0, 0, 0, 0, 0,
+];
+
+/// Those two records where the first image is of the first version: the changes make the same of it.
+const OLD: [u8; 123] = [
     1, 0, 0, 0, 0, 0, 0, 0, 43, 0, 87, 84, 70, 73, 77, 71, 48, 49, 4, 2, 0, 1, 0, 0, 0, 0, 0, 0, 0,
     0, 0, 0, 0, 0, 0, 0, 0, 0, 0, 1, 0, 0, 0, 1, 0, 1, 47, 0, 0, 0, 0, 0, 1, 0, 0, 0, 0, 0, 0, 0,
     61, 1, 0, 0, 0, 0, 0, 0, 0, 1, 0, 0, 0, 0, 0, 0, 0, 2, 0, 0, 0, 1, 0, 2, 47, 97, 1, 0, 0, 0, 0,
@@ -34,7 +42,7 @@ const TWO: [u8; 123] = [
 
 /// And in place of that one of changes that give a region to a file that is not there.
 const LOST: [u8; 135] = [
-    1, 0, 0, 0, 0, 0, 0, 0, 43, 0, 87, 84, 70, 73, 77, 71, 48, 49, 4, 2, 0, 1, 0, 0, 0, 0, 0, 0, 0,
+    1, 0, 0, 0, 0, 0, 0, 0, 43, 0, 87, 84, 70, 73, 77, 71, 48, 50, 4, 2, 0, 1, 0, 0, 0, 0, 0, 0, 0,
     0, 0, 0, 0, 0, 0, 0, 0, 0, 0, 1, 0, 0, 0, 1, 0, 1, 47, 0, 0, 0, 0, 0, 1, 0, 0, 0, 0, 0, 0, 0,
     73, 1, 0, 0, 0, 0, 0, 0, 0, 3, 0, 0, 0, 0, 0, 0, 0, 4, 0, 0, 0, 0, 0, 0, 0, 0, 0, 0, 0, 1, 0,
     0, 0, 0, 0, 0, 0, 1, 0, 0, 0, 1, 0, 0, 1, 0, 0, 0, 6, 0, 0, 0, 0, 1, 0, 0, 0, 0, 0, 0, 0, 6, 1,
@@ -67,6 +75,7 @@ fn the_last_image_is_given_with_the_changes_after_it(rt: HostRuntime) {
     assert!(rt; gives(rt.alloc(), b"\x02\x01", b"", 2));
     assert!(rt; gives(rt.alloc(), &ONE, &ROOT, 53));
     assert!(rt; gives(rt.alloc(), &TWO, &MADE, 208));
+    assert!(rt; gives(rt.alloc(), &OLD, &MADE, 208));
 }
 
 /// Whether a journal of these bytes is refused at this offset.

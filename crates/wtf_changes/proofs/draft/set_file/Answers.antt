@@ -12,7 +12,8 @@ pub returns-in_default : goal.returns-in_default
 returns-in_default c =
     let es = c.args.files.now.entries in
     let i = c.args.change.inode in
-    ap (seen file_entry) c.remove-found.ensures.entries ∙ file_gone es i ∙ sym (ap (file_set (seen file_entry es) i) (none_by c.args.change.last c.in_default.not-Some))
+    ap (seen file_entry) c.remove-found.ensures.entries ∙ file_gone es i
+    ∙ sym (ap (file_set (seen file_entry es) i) (none_by c.args.change.last c.in_default.not-Some))
 
 pub returns : goal.returns
 returns c =

@@ -5,4 +5,5 @@ use Rattle.wtf_changes.specs.Drafts.{set_all, node_change}
 use Rattle.wtf_changes.proofs.draft.set_paths.Given as goal
 
 abbrev pub invariant-loop-change : goal.invariant-loop-change
-invariant-loop-change l = set_all (slice_cmp nat_cmp) l.paths.entries (map node_change (drop l.change-index l.changes)) ≡ set_all (slice_cmp nat_cmp) l.initial.paths.entries (map node_change l.changes)
+invariant-loop-change l = set_all (slice_cmp nat_cmp) l.paths.entries (map node_change (drop l.change-index l.changes))
+    ≡ set_all (slice_cmp nat_cmp) l.initial.paths.entries (map node_change l.changes)

@@ -21,5 +21,7 @@ returns-in-Err c =
     let cs = c.args.changes.now in
     let i = c.loop-change.change-index in
     let es = seen file_entry c.loop-change.files.entries in
-    regions_unmade es (region_row c.change-item.result) (region_rows (drop (i + 1) cs)) (regions_set (seen file_entry c.args.files.now.entries) (region_rows cs)) c.in-Err.why
-    (sym (at_front (λ es cs. regions_set es (region_rows cs)) cs i c.change-item.result c.loop-change-test.true c.change-item.is es) ∙ c.loop-change.invariant) c.in-Err.ensures
+    regions_unmade es (region_row c.change-item.result) (region_rows (drop (i + 1) cs))
+    (regions_set (seen file_entry c.args.files.now.entries) (region_rows cs)) c.in-Err.why
+    (sym (at_front (λ es cs. regions_set es (region_rows cs)) cs i c.change-item.result c.loop-change-test.true c.change-item.is es)
+    ∙ c.loop-change.invariant) c.in-Err.ensures

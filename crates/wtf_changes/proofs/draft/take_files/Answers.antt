@@ -18,7 +18,8 @@ loop-file-preserved c =
     let draft : FileDraft = record { last = f.last; regions = c.in_ok-regions.regions } in
     let entry : List (ℕ × ValueRow) → FileEntry = λ rs. record { last = f.last; regions = rs } in
     let made = ap (seen file_entry) c.in_ok-insert.ensures.entries ∙ insert-seen inode_cmp file_entry es f.inode draft
-    ∙ ap (λ rs. insert_entry inode_cmp (seen file_entry es) f.inode (entry rs)) (c.in_ok-regions.ensures ∙ ap (λ rs. regions_taken (region_rows rs)) c.as_slice.ensures.value) in
+    ∙ ap (λ rs. insert_entry inode_cmp (seen file_entry es) f.inode (entry rs))
+    (c.in_ok-regions.ensures ∙ ap (λ rs. regions_taken (region_rows rs)) c.as_slice.ensures.value) in
     stepped (λ es fs. set_all inode_cmp es (map file_taken (file_rows fs))) fs i f c.loop-file-test.true c.file-item.is
     (seen file_entry es) (seen file_entry c.insert.new.self.entries) (set_all inode_cmp [] (map file_taken (file_rows fs)))
     (ap (λ es. set_all inode_cmp es (map file_taken (file_rows (drop (i + 1) fs)))) made) c.loop-file.invariant

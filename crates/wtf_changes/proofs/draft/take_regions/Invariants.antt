@@ -6,4 +6,5 @@ use Rattle.wtf_changes.specs.Kept.{seen}
 use Rattle.wtf_changes.proofs.draft.take_regions.Given as goal
 
 abbrev pub invariant-loop-region : goal.invariant-loop-region
-invariant-loop-region l = set_all nat_cmp (seen value_row l.made.entries) (map value_taken (region_rows (drop l.region-index l.regions))) ≡ regions_taken (region_rows l.regions)
+invariant-loop-region l = set_all nat_cmp (seen value_row l.made.entries) (map value_taken (region_rows (drop l.region-index l.regions)))
+    ≡ regions_taken (region_rows l.regions)

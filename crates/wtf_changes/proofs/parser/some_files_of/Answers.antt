@@ -7,9 +7,11 @@ use Rattle.wtf_changes.proofs.parser.some_files_of.Goals as goal
 pub returns-in_err-file : goal.returns-in_err-file
 returns-in_err-file c =
     let p = err_from_is_err_and c.from_residual.result c.from_residual.ensures.1 in
-    rw (p.1, p.2) (ends file_at c.in_err-file.field-0.0 c.loop.files.items c.args.count c.loop.counter c.loop.rest.now (many_at file_at c.args.count c.args.bytes.now) c.loop-test.true c.in_err-file.ensures c.loop.invariant)
+    rw (p.1, p.2) (ends file_at c.in_err-file.field-0.0 c.loop.files.items c.args.count c.loop.counter c.loop.rest.now
+    (many_at file_at c.args.count c.args.bytes.now) c.loop-test.true c.in_err-file.ensures c.loop.invariant)
 
 pub loop-preserved : goal.loop-preserved
 loop-preserved c =
     let x = c.in_ok-file.file in
-    rw c.in_ok-push.ensures.items (goes_on file_at c.loop.files.items c.args.count c.loop.counter c.loop.rest.now x c.in_ok-file.after.now (many_at file_at c.args.count c.args.bytes.now) c.loop-test.true c.in_ok-file.ensures c.loop.invariant)
+    rw c.in_ok-push.ensures.items (goes_on file_at c.loop.files.items c.args.count c.loop.counter c.loop.rest.now x c.in_ok-file.after.now
+    (many_at file_at c.args.count c.args.bytes.now) c.loop-test.true c.in_ok-file.ensures c.loop.invariant)

@@ -10,10 +10,13 @@ use Rattle.wtf_changes.proofs.parser.some_regions_of.Goals as goal
 pub returns-in_err-region : goal.returns-in_err-region
 returns-in_err-region c =
     let p = err_from_is_err_and c.from_residual.result c.from_residual.ensures.1 in
-    rw (p.1, p.2) (ends region_change_at c.in_err-region.field-0.0 (region_rows c.loop.regions.items) c.args.count c.loop.counter c.loop.rest.now (many_at region_change_at c.args.count c.args.bytes.now) c.loop-test.true c.in_err-region.ensures c.loop.invariant)
+    rw (p.1, p.2) (ends region_change_at c.in_err-region.field-0.0 (region_rows c.loop.regions.items) c.args.count c.loop.counter c.loop.rest.now
+    (many_at region_change_at c.args.count c.args.bytes.now) c.loop-test.true c.in_err-region.ensures c.loop.invariant)
 
 pub loop-preserved : goal.loop-preserved
 loop-preserved c =
     let x = c.in_ok-region.region in
-    let all : region_rows c.push.new.self.items ≡ region_rows c.loop.regions.items ++ region_row x ∷ [] = rw c.in_ok-push.ensures.items (map_push _ c.loop.regions.items x) in
-    rw all (goes_on region_change_at (region_rows c.loop.regions.items) c.args.count c.loop.counter c.loop.rest.now (region_row x) c.in_ok-region.after.now (many_at region_change_at c.args.count c.args.bytes.now) c.loop-test.true c.in_ok-region.ensures c.loop.invariant)
+    let all : region_rows c.push.new.self.items ≡ region_rows c.loop.regions.items ++ region_row x ∷ [] =
+    rw c.in_ok-push.ensures.items (map_push _ c.loop.regions.items x) in
+    rw all (goes_on region_change_at (region_rows c.loop.regions.items) c.args.count c.loop.counter c.loop.rest.now (region_row x) c.in_ok-region.after.now
+    (many_at region_change_at c.args.count c.args.bytes.now) c.loop-test.true c.in_ok-region.ensures c.loop.invariant)

@@ -11,4 +11,5 @@ unfolding regions_text
 returns c =
     let xs = c.args.regions.now in
     counted_then w32 (2 ^ 32) region_row region_text IsRegionRow c.args.out.now.items c.put_u32.new.out.items c.loop-region.out.items xs c.in_ok-put_u32.ensures
-    (wrote_all (λ x. region_text (region_row x)) (λ x. IsRegionRow (region_row x)) c.put_u32.new.out.items c.loop-region.out.items xs c.loop-region.region-index (omega arith) c.loop-region.invariant)
+    (wrote_all (λ x. region_text (region_row x)) (λ x. IsRegionRow (region_row x)) c.put_u32.new.out.items c.loop-region.out.items xs c.loop-region.region-index
+    (omega arith) c.loop-region.invariant)

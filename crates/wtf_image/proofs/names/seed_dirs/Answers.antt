@@ -24,4 +24,5 @@ loop-entry-preserved c =
     let at = c.loop-entry.entry-index in
     let one = subst (λ names. Adds c.loop-entry.kv c.seed_dir.new.kv (dir_seed_by names x.path x.node)) (c.requires.dirs x.path) c.in_ok-seed_dir.ensures in
     adds_more (dir_seed all) c.args.kv.now c.loop-entry.kv c.seed_dir.new.kv all at x c.loop-entry-test.true c.entry-item.is c.loop-entry.invariant one
-    (λ q z found. not_before (dir_seed all) path_before path_trans OwnsDir (dir_apart all) all at x q c.requires.ascend c.loop-entry-test.true c.entry-item.is (dir_owns all x q z found))
+    (λ q z found. not_before (dir_seed all) path_before path_trans OwnsDir (dir_apart all) all at x q c.requires.ascend c.loop-entry-test.true c.entry-item.is
+    (dir_owns all x q z found))

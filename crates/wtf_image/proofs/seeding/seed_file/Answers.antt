@@ -11,5 +11,6 @@ returns c =
     let f = c.args.file.now in
     adds_then c.args.kv.now c.seed_last.new.kv c.seed_regions.new.kv (last_seed f.inode f.last) (flat_map (region_seed f.inode) (region_rows f.regions.items))
     c.in_ok-seed_last.ensures
-    (subst (λ rs. Adds c.seed_last.new.kv c.seed_regions.new.kv (flat_map (region_seed f.inode) (region_rows rs))) c.as_slice.ensures.value c.in_ok-seed_regions.ensures)
+    (subst (λ rs. Adds c.seed_last.new.kv c.seed_regions.new.kv
+    (flat_map (region_seed f.inode) (region_rows rs))) c.as_slice.ensures.value c.in_ok-seed_regions.ensures)
     (λ q z found. inode_apart (file_row f) q z found)

@@ -51,4 +51,5 @@ loop-file-preserved c =
     let inside = row_inside file_row all at c.loop-file-test.true in
     let here = row_here file_row all at x c.loop-file-test.true c.file-item.is in
     adds_more file_seeds c.args.kv.now c.loop-file.kv c.seed_file.new.kv rows at (file_row x) inside here c.loop-file.invariant c.in_ok-seed_file.ensures
-    (λ q z found. not_before file_seeds file_before file_trans OwnsFile file_apart rows at (file_row x) q c.requires.ascend inside here (file_owns (file_row x) q z found))
+    (λ q z found. not_before file_seeds file_before file_trans OwnsFile file_apart rows at (file_row x) q c.requires.ascend inside here
+    (file_owns (file_row x) q z found))

@@ -22,5 +22,7 @@ loop-record-preserved c =
     let all = c.args.paths.now in
     let x = c.record-item.result in
     let at = c.loop-record.record-index in
-    adds_more path_seed c.args.kv.now c.loop-record.kv c.seed_path.new.kv all at x c.loop-record-test.true c.record-item.is c.loop-record.invariant c.in_ok-seed_path.ensures
-    (λ q z found. not_before path_seed path_before path_trans OwnsPath path_apart all at x q c.requires.ascend c.loop-record-test.true c.record-item.is (path_owns x q z found))
+    adds_more path_seed c.args.kv.now c.loop-record.kv c.seed_path.new.kv all at x c.loop-record-test.true c.record-item.is c.loop-record.invariant
+    c.in_ok-seed_path.ensures
+    (λ q z found. not_before path_seed path_before path_trans OwnsPath path_apart all at x q c.requires.ascend c.loop-record-test.true c.record-item.is
+    (path_owns x q z found))

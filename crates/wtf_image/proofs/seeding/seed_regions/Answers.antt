@@ -30,5 +30,7 @@ loop-region-preserved c =
     let rows = region_rows all in
     let inside = row_inside region_row all at c.loop-region-test.true in
     let here = row_here region_row all at x c.loop-region-test.true c.region-item.is in
-    adds_more (region_seed i) c.args.kv.now c.loop-region.kv c.seed_region.new.kv rows at (region_row x) inside here c.loop-region.invariant c.in_ok-seed_region.ensures
-    (λ q z found. not_before (region_seed i) region_before region_trans (OwnsRegion i) (region_apart i) rows at (region_row x) q c.requires.ascend inside here (region_owns i (region_row x) q z found))
+    adds_more (region_seed i) c.args.kv.now c.loop-region.kv c.seed_region.new.kv rows at
+    (region_row x) inside here c.loop-region.invariant c.in_ok-seed_region.ensures
+    (λ q z found. not_before (region_seed i) region_before region_trans (OwnsRegion i) (region_apart i) rows at (region_row x) q c.requires.ascend inside here
+    (region_owns i (region_row x) q z found))

@@ -34,7 +34,8 @@ pub returns-in_default : goal.returns-in_default
 returns-in_default c =
     let rest = c.next.new.self in
     let more = rest_more deref_pair c.loop-key.key-iterator rest c.next.result (c.in-Some.key, c.in-Some.value) c.in-Some.is c.next.ensures.steps in
-    files_stop c.args.kv.now (file_rows c.loop-key.files.items) (c.in-Some.key.now, c.in-Some.value.now) c.loop-key.key-iterator rest more (not_inode c.in-Some.key.now c.in_default.not-Inode) c.loop-key.invariant.1 c.loop-key.invariant.0
+    files_stop c.args.kv.now (file_rows c.loop-key.files.items) (c.in-Some.key.now, c.in-Some.value.now) c.loop-key.key-iterator rest more
+    (not_inode c.in-Some.key.now c.in_default.not-Inode) c.loop-key.invariant.1 c.loop-key.invariant.0
 
 pub returns : goal.returns
 returns c =

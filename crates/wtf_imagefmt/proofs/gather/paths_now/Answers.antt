@@ -29,7 +29,8 @@ pub returns-in_default : goal.returns-in_default
 returns-in_default c =
     let rest = c.next.new.self in
     let more = rest_more deref_pair c.loop-key.key-iterator rest c.next.result (c.in-Some.key, c.in-Some.value) c.in-Some.is c.next.ensures.steps in
-    paths_stop c.args.kv.now c.loop-key.paths.items (c.in-Some.key.now, c.in-Some.value.now) c.loop-key.key-iterator rest more (not_path c.in-Some.key.now c.in_default.not-Path) c.loop-key.invariant
+    paths_stop c.args.kv.now c.loop-key.paths.items (c.in-Some.key.now, c.in-Some.value.now) c.loop-key.key-iterator rest more
+    (not_path c.in-Some.key.now c.in_default.not-Path) c.loop-key.invariant
 
 pub returns : goal.returns
 returns c =

@@ -11,4 +11,5 @@ unfolding files_text
 returns c =
     let xs = c.args.files.now in
     counted_then w32 (2 ^ 32) file_row file_text IsWideFile c.args.out.now.items c.put_u32.new.out.items c.loop-file.out.items xs c.in_ok-put_u32.ensures
-    (wrote_all (λ x. file_text (file_row x)) (λ x. IsWideFile (file_row x)) c.put_u32.new.out.items c.loop-file.out.items xs c.loop-file.file-index (omega arith) c.loop-file.invariant)
+    (wrote_all (λ x. file_text (file_row x)) (λ x. IsWideFile (file_row x)) c.put_u32.new.out.items c.loop-file.out.items xs c.loop-file.file-index
+    (omega arith) c.loop-file.invariant)
