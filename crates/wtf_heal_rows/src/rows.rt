@@ -8,6 +8,10 @@ use wtf_trial::devices::{Ended, NONE, run_on};
 /// A script that makes a file of four bytes.
 const FOUR_BYTES: &str = "c0 begin\nc0 create /a\nc0 open f0 /a\nc0 write f0 t:abcd\nc0 try\n";
 
+/// One that gives it a second path.
+const SHARED: &str =
+    "c0 begin\nc0 create /a\nc0 open f0 /a\nc0 write f0 t:abcd\nc0 link /a /b\nc0 try\n";
+
 /// Three servers, two copies each.
 const THREE: &str = "--servers 3";
 
@@ -87,6 +91,56 @@ fn two_of_three_servers_had_the_bytes(rt: HostRuntime) -> Result<(), Fail> {
 #[test]
 fn a_lost_store_may_be_empty(rt: HostRuntime) -> Result<(), Fail> {
     let count = count_of(rt.alloc(), FOUR_BYTES, State::Empty, HEALED_FOUR)?;
+    assert!(rt; count == 2);
+    Ok(())
+}
+
+/// Whether a file keeps its two paths where what lay on this server is made anew: one region is, at most.
+fn keeps_paths(alloc: Global, server: (u8, &str)) -> Result<bool, Fail> {
+    let mut kept = made(alloc, 3, THREE, SHARED)?;
+    kept.shelf = left(alloc, &mut kept.shelf, server.0, State::Empty)?;
+    let image = kept.image.as_slice();
+    let healed = heal(alloc, server.1, &mut kept.shelf, image, NO_CALL)?;
+    let once = is_so(&healed, 0, HEALED_FOUR) || is_so(&healed, 0, HEALED_NOTHING);
+    let lost = server.1;
+    let script = format!(in alloc;
+        "c0 begin\nc0 stat /a\nsys down {lost}\nsys dump /b\nsys up {lost}\n"
+    )?;
+    let image = healed.kept.as_slice();
+    let shown = run_on(alloc, "", script.as_bytes(), NONE, &mut kept.shelf, image)?;
+    let want = b"file 4 links 2\nok\ndata x:61626364\nok\n".as_slice();
+    Ok(once && shown.output.as_slice().ends_with(want))
+}
+
+#[test]
+fn a_file_of_two_paths_is_healed_once(rt: HostRuntime) -> Result<(), Fail> {
+    for server in SERVERS {
+        assert!(rt; keeps_paths(rt.alloc(), server)?, "{}", server.1);
+    }
+    Ok(())
+}
+
+/// Whether the healer makes an image of the first version, after this server was lost, one of the second.
+fn renews(alloc: Global, server: (u8, &str)) -> Result<bool, Fail> {
+    let mut kept = made(alloc, 3, THREE, FOUR_BYTES)?;
+    kept.shelf = left(alloc, &mut kept.shelf, server.0, State::Whole)?;
+    let mut old = kept.image.as_slice().to_vec(alloc)?;
+    if let Some(version) = old.get_mut(7) {
+        *version = b'1';
+    }
+    let ended = heal(alloc, server.1, &mut kept.shelf, old.as_slice(), NO_CALL)?;
+    Ok(is_so(&ended, 0, HEALED_FOUR) && ended.kept.as_slice().starts_with(b"WTFIMG02"))
+}
+
+/// Two of three servers had the bytes.
+#[test]
+fn an_old_image_is_healed_to_a_new_one(rt: HostRuntime) -> Result<(), Fail> {
+    let mut count = 0u32;
+    for server in SERVERS {
+        if renews(rt.alloc(), server)? {
+            count = count.saturating_add(1);
+        }
+    }
     assert!(rt; count == 2);
     Ok(())
 }

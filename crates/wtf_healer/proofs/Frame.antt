@@ -4,7 +4,7 @@ use Rattle.std.specs.Prelude.{IsSome}
 use Rattle.std.specs.FinMap.{get}
 use Rattle.wtf_base.specs.declared.ids.InodeId.{InodeId}
 use Rattle.wtf_model.specs.Tree.{Tree, TreeNode, Dir, File}
-use Rattle.wtf_values.specs.declared.key.Key.TheVariants.{Path, Dir as DirKey, Inode, Region}
+use Rattle.wtf_values.specs.declared.key.Key.TheVariants.{Path, Dir as DirKey, Inode, Region, Links}
 use Rattle.wtf_values.specs.declared.value.Node.TheVariants.{Folder, File as FileNode}
 use Rattle.wtf_values.specs.declared.value.Value.{Value}
 use Rattle.wtf_values.specs.declared.value.Value.TheVariants as value
@@ -16,11 +16,12 @@ use Rattle.wtf_meta.specs.Maps.{Map}
 use Rattle.wtf_meta.specs.Trees.{IsBody, NodeAt, NamesAt, Stands}
 use Rattle.wtf_overlay.specs.Meaning.{meaning}
 
--- names, directories and last regions are the same, and each region ends where it did and tells the bytes that it told
+-- names, directories, last regions and numbers of paths are the same, and each region ends where it did and tells the bytes that it told
 pub record SameBodies (b : ℕ) (told now : Told) (w v : Map) : Type 0 where
   pub paths : (p : List ℕ) → v (Path p) ≡ w (Path p)
   pub dirs : (p : List ℕ) → v (DirKey p) ≡ w (DirKey p)
   pub inodes : (i : InodeId) → v (Inode i) ≡ w (Inode i)
+  pub counts : (i : InodeId) → v (Links i) ≡ w (Links i)
   pub kinds : (i : InodeId) (r : ℕ) → IsRegion (w (Region i r)) → IsRegion (v (Region i r))
   pub none : (i : InodeId) (r : ℕ) → region_of (w (Region i r)) ≡ None → region_of (v (Region i r)) ≡ None
   pub there : (i : InodeId) (r : ℕ) → IsSome (v (Region i r)) → IsSome (w (Region i r))
@@ -62,8 +63,10 @@ module _ (b : ℕ) (told now : Told) (w v : Map) (same : SameBodies b told now w
     body = body_same i bytes at.body;
     lead = λ q has. same.paths q ∙ at.lead q has;
     all = λ q to. at.all q (sym (same.paths q) ∙ to);
+    count = same.counts i ∙ at.count;
   }
   node_same (Some (value.Names s)) o at = absurd at
+  node_same (Some (value.Count n)) o at = absurd at
   node_same (Some (value.Last r)) o at = absurd at
   node_same (Some (value.Region g)) o at = absurd at
 
@@ -72,9 +75,10 @@ module _ (b : ℕ) (told now : Told) (w v : Map) (same : SameBodies b told now w
     tree_is = st.tree_is;
     nodes = λ p. subst (λ x. NodeAt b now v x (get t p)) (sym (same.paths p)) (node_same (w (Path p)) (get t p) (st.nodes p));
     names = λ p. subst (λ x. NamesAt t p x (get t p)) (sym (same.dirs p)) (st.names p);
-    apart = λ p q i one two. st.apart p q i (sym (same.paths p) ∙ one) (sym (same.paths q) ∙ two);
     led = λ i some. let found = st.led i (subst IsSome (same.inodes i) some) in (found.0, same.paths found.0 ∙ found.1);
     regions = λ i r some. subst IsSome (sym (same.inodes i)) (st.regions i r (same.there i r some));
+    counted = λ i some. subst IsSome (sym (same.inodes i)) (st.counted i (subst IsSome (same.counts i) some));
     bytes = bytes;
     fresh = λ i tx_is past. same.inodes i ∙ st.fresh i tx_is past;
+    few = st.few;
   }

@@ -158,6 +158,7 @@ module _ {S : Type 0} {kind : StoreKind S} (laws : KindLaws kind) (before after 
   stays_inside None k sound = tt
   stays_inside (Some (value.Node x)) k sound = tt
   stays_inside (Some (value.Names x)) k sound = tt
+  stays_inside (Some (value.Count n)) k sound = tt
   stays_inside (Some (value.Last x)) k sound = tt
   stays_inside (Some (value.Region v)) k sound =
       let s = sound v refl in

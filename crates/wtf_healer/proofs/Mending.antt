@@ -5,7 +5,7 @@ use Rattle.std.specs.List.{All, Contains}
 use Rattle.wtf_base.specs.declared.ids.InodeId.{InodeId}
 use Rattle.wtf_model.specs.Tree.{Tree}
 use Rattle.wtf_overlay.specs.Meaning.{meaning}
-use Rattle.wtf_values.specs.declared.key.Key.TheVariants.{Path, Dir, Inode, Region}
+use Rattle.wtf_values.specs.declared.key.Key.TheVariants.{Path, Dir, Inode, Region, Links}
 use Rattle.wtf_values.specs.declared.region.RegionValue.{RegionValue}
 use Rattle.wtf_values.specs.declared.value.Value.{Value}
 use Rattle.wtf_values.specs.declared.value.Value.TheVariants as value
@@ -38,6 +38,7 @@ live_is b told lost x l v is h = live l (subst (λ o. IsLiveValue b told lost o 
     live None h = absurd h
     live (Some (value.Node n)) h = absurd h
     live (Some (value.Names ns)) h = absurd h
+    live (Some (value.Count n)) h = absurd h
     live (Some (value.Last n)) h = absurd h
     live (Some (value.Region u)) h = (u, refl, h)
 
@@ -46,6 +47,7 @@ itself_left : (b : ℕ) (told : Told) (lost : ℕ → Bool) (x : Option Value) �
 itself_left b told lost None h = refl
 itself_left b told lost (Some (value.Node n)) h = refl
 itself_left b told lost (Some (value.Names ns)) h = refl
+itself_left b told lost (Some (value.Count n)) h = refl
 itself_left b told lost (Some (value.Last n)) h = refl
 itself_left b told lost (Some (value.Region v)) h = absurd (cc)
 
@@ -92,6 +94,7 @@ module _ (b n : ℕ) (told now : Told) (lost : ℕ → Bool) (on : TellsOn told 
     stays_at None l is sound = subst (λ o. P None o None o) (sym is) (other None refl)
     stays_at (Some (value.Node k)) l is sound = subst (λ o. P (Some (value.Node k)) o (Some (value.Node k)) o) (sym is) (other (Some (value.Node k)) refl)
     stays_at (Some (value.Names k)) l is sound = subst (λ o. P (Some (value.Names k)) o (Some (value.Names k)) o) (sym is) (other (Some (value.Names k)) refl)
+    stays_at (Some (value.Count n)) l is sound = subst (λ o. P (Some (value.Count n)) o (Some (value.Count n)) o) (sym is) (other (Some (value.Count n)) refl)
     stays_at (Some (value.Last k)) l is sound = subst (λ o. P (Some (value.Last k)) o (Some (value.Last k)) o) (sym is) (other (Some (value.Last k)) refl)
     stays_at (Some (value.Region was)) l is sound =
         let u = live_is b told lost (Some (value.Region was)) l was refl is in
@@ -132,6 +135,9 @@ module _ (b n : ℕ) (told now : Told) (lost : ℕ → Bool) (on : TellsOn told 
   pub inode_aside : (i : InodeId) (o : Option Value) → after_puts puts (Inode i) o ≡ o
   inode_aside i o = put_aside Each (Inode i) puts h.each (λ k e. absurd (cc)) o
 
+  count_aside : (i : InodeId) (o : Option Value) → after_puts puts (Links i) o ≡ o
+  count_aside i o = put_aside Each (Links i) puts h.each (λ k e. absurd (cc)) o
+
   -- ---- what is left of the map after the puts
 
   pub mended_live : IsLiveMap b now lost v kept
@@ -139,6 +145,7 @@ module _ (b n : ℕ) (told now : Told) (lost : ℕ → Bool) (on : TellsOn told 
     paths = λ p. path_aside p (live (Path p)) ∙ left.paths p ∙ sym (path_aside p (w (Path p)));
     dirs = λ p. dir_aside p (live (Dir p)) ∙ left.dirs p ∙ sym (dir_aside p (w (Dir p)));
     inodes = λ i. inode_aside i (live (Inode i)) ∙ left.inodes i ∙ sym (inode_aside i (w (Inode i)));
+    counts = λ i. count_aside i (live (Links i)) ∙ left.counts i ∙ sym (count_aside i (w (Links i)));
     regions = λ i r. by_key (λ x l y z. IsLiveValue b now lost y z) (λ was u x lr a. anew_live b n told now lost was u lr x a)
         (λ was u lr k. live_later b told now lost on was u lr) (λ x none. itself_left b now lost x none) i r;
   }
@@ -150,6 +157,7 @@ module _ (b n : ℕ) (told now : Told) (lost : ℕ → Bool) (on : TellsOn told 
     paths = λ p. path_aside p (w (Path p)) ∙ sym (left.paths p);
     dirs = λ p. dir_aside p (w (Dir p)) ∙ sym (left.dirs p);
     inodes = λ i. inode_aside i (w (Inode i)) ∙ sym (left.inodes i);
+    counts = λ i. count_aside i (w (Links i)) ∙ sym (left.counts i);
     kinds = λ i r. by_key (λ x l y z. IsRegion l → IsRegion y) (λ was u x lr a is. tt) (λ was u lr k is. tt) (λ x none is. is) i r;
     none = λ i r. by_key (λ x l y z. region_of l ≡ None → region_of y ≡ None) (λ was u x lr a no. absurd (cc)) (λ was u lr k no. absurd (cc))
         (λ x none no. no) i r;
@@ -167,6 +175,7 @@ module _ (b n : ℕ) (told now : Told) (lost : ℕ → Bool) (on : TellsOn told 
     paths = λ p. path_aside p (live (Path p));
     dirs = λ p. dir_aside p (live (Dir p));
     inodes = λ i. inode_aside i (live (Inode i));
+    counts = λ i. count_aside i (live (Links i));
     kinds = λ i r. by_key (λ x l y z. IsRegion l → IsRegion z) (λ was u x lr a is. tt) (λ was u lr k is. tt) (λ x none is. is) i r;
     none = λ i r. by_key (λ x l y z. region_of l ≡ None → region_of z ≡ None) (λ was u x lr a no. absurd (cc)) (λ was u lr k no. absurd (cc))
         (λ x none no. no) i r;
@@ -195,6 +204,7 @@ module _ (b n : ℕ) (told now : Told) (lost : ℕ → Bool) (on : TellsOn told 
   map_bytes k (Path p) = subst Is (left.paths p ∙ sym (path_aside p (w (Path p)))) (bytes_on (live (Path p)) (k (Path p)))
   map_bytes k (Dir p) = subst Is (left.dirs p ∙ sym (dir_aside p (w (Dir p)))) (bytes_on (live (Dir p)) (k (Dir p)))
   map_bytes k (Inode i) = subst Is (left.inodes i ∙ sym (inode_aside i (w (Inode i)))) (bytes_on (live (Inode i)) (k (Inode i)))
+  map_bytes k (Links i) = subst Is (left.counts i ∙ sym (count_aside i (w (Links i)))) (bytes_on (live (Links i)) (k (Links i)))
   map_bytes k (Region i r) = by_key (λ x l y z. Was l → Is y) (λ was u x lr a. anew_region b n told now lost was u lr x a)
       (λ was u lr un. stays_region b n told now lost on was u lr un) (λ x none. bytes_on x) i r (k (Region i r))
 
@@ -202,6 +212,7 @@ module _ (b n : ℕ) (told now : Told) (lost : ℕ → Bool) (on : TellsOn told 
   live_map_bytes k (Path p) = subst Is (sym (path_aside p (live (Path p)))) (bytes_on (live (Path p)) (k (Path p)))
   live_map_bytes k (Dir p) = subst Is (sym (dir_aside p (live (Dir p)))) (bytes_on (live (Dir p)) (k (Dir p)))
   live_map_bytes k (Inode i) = subst Is (sym (inode_aside i (live (Inode i)))) (bytes_on (live (Inode i)) (k (Inode i)))
+  live_map_bytes k (Links i) = subst Is (sym (count_aside i (live (Links i)))) (bytes_on (live (Links i)) (k (Links i)))
   live_map_bytes k (Region i r) = by_key (λ x l y z. Was l → Is z) (λ was u x lr a. anew_region b n told now lost was u lr x a)
       (λ was u lr un. live_region b n told now lost on was u lr un) (λ x none. bytes_on x) i r (k (Region i r))
 

@@ -15,7 +15,7 @@ use Rattle.wtf_overlay.specs.declared.part.Entry.{Entry}
 use Rattle.wtf_overlay.specs.Clips.{clip_list}
 use Rattle.wtf_overlay.specs.Meaning.{meaning}
 use Rattle.wtf_overlay.specs.Origin.{part_origin, origin}
-use Rattle.wtf_values.specs.declared.key.Key.TheVariants.{Path, Dir, Inode, Region}
+use Rattle.wtf_values.specs.declared.key.Key.TheVariants.{Path, Dir, Inode, Region, Links}
 use Rattle.wtf_values.specs.declared.region.RegionValue.{RegionValue}
 use Rattle.wtf_values.specs.declared.region.Spill.{Spill}
 use Rattle.wtf_values.specs.declared.value.Value.{Value}
@@ -128,10 +128,12 @@ module _ (b : ℕ) (told : Told) where
   live_case P region other None l h = subst (P None) (sym h) (other None)
   live_case P region other (Some (value.Node n)) l h = subst (P (Some (value.Node n))) (sym h) (other (Some (value.Node n)))
   live_case P region other (Some (value.Names ns)) l h = subst (P (Some (value.Names ns))) (sym h) (other (Some (value.Names ns)))
+  live_case P region other (Some (value.Count n)) l h = subst (P (Some (value.Count n))) (sym h) (other (Some (value.Count n)))
   live_case P region other (Some (value.Last n)) l h = subst (P (Some (value.Last n))) (sym h) (other (Some (value.Last n)))
   live_case P region other (Some (value.Region v)) None h = absurd h
   live_case P region other (Some (value.Region v)) (Some (value.Node n)) h = absurd h
   live_case P region other (Some (value.Region v)) (Some (value.Names ns)) h = absurd h
+  live_case P region other (Some (value.Region v)) (Some (value.Count n)) h = absurd h
   live_case P region other (Some (value.Region v)) (Some (value.Last n)) h = absurd h
   live_case P region other (Some (value.Region v)) (Some (value.Region u)) h = region v u h
 
@@ -146,6 +148,7 @@ module _ (b : ℕ) (told : Told) where
       paths = λ p. sym (h.paths p);
       dirs = λ p. sym (h.dirs p);
       inodes = λ i. sym (h.inodes i);
+      counts = λ i. sym (h.counts i);
       kinds = λ i r. at (λ x l. IsRegion l → IsRegion x) (λ v u is k. tt) (λ x k. k) i r;
       none = λ i r. at (λ x l. region_of l ≡ None → region_of x ≡ None) (λ v u is none. absurd (cc)) (λ x none. none) i r;
       there = λ i r. at (λ x l. IsSome x → IsSome l) (λ v u is some. refl) (λ x some. some) i r;
@@ -159,6 +162,7 @@ module _ (b : ℕ) (told : Told) where
     map_bytes bytes (Path p) = subst (ValueBytes (is_told told) (is_listed b told)) (h.paths p) (bytes (Path p))
     map_bytes bytes (Dir p) = subst (ValueBytes (is_told told) (is_listed b told)) (h.dirs p) (bytes (Dir p))
     map_bytes bytes (Inode i) = subst (ValueBytes (is_told told) (is_listed b told)) (h.inodes i) (bytes (Inode i))
+    map_bytes bytes (Links i) = subst (ValueBytes (is_told told) (is_listed b told)) (h.counts i) (bytes (Links i))
     map_bytes bytes (Region i r) = at (λ x l. ValueBytes (is_told told) (is_listed b told) l → ValueBytes (is_told told) (is_listed b told) x)
         (λ v u is bytes. region_bytes v u is bytes) (λ x bytes. bytes) i r (bytes (Region i r))
 

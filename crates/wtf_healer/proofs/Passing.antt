@@ -137,6 +137,7 @@ pub region_is : (x : Option Value) (v : RegionValue) → region_of x ≡ Some v 
 region_is None v e = absurd (cc)
 region_is (Some (value.Node n)) v e = absurd (cc)
 region_is (Some (value.Names s)) v e = absurd (cc)
+region_is (Some (value.Count n)) v e = absurd (cc)
 region_is (Some (value.Last r)) v e = absurd (cc)
 region_is (Some (value.Region g)) v e = let same : g ≡ v = cc in ap (λ x. Some (value.Region x)) same
 

@@ -21,7 +21,7 @@ use Rattle.wtf_values.specs.declared.value.Value.TheVariants as value
 use Rattle.wtf_meta.specs.Maps.{Map}
 use Rattle.wtf_meta.specs.Bytes.{PartBytes, EntryBytes, BaseBytes, ValueBytes, any_slice}
 use Rattle.wtf_image.specs.Rows.{EntryRow, RegionRow, FileRow, ImageRows, part_row, base_row, entry_rows}
-use Rattle.wtf_image.specs.Lookups.{Plain, NodeIs, NamesAre, LastIs, RegionIs, plain}
+use Rattle.wtf_image.specs.Lookups.{Plain, NodeIs, NamesAre, LastIs, RegionIs, CountIs, plain}
 use Rattle.wtf_image.specs.Rules.{lies_inside, are_inside, is_file_inside, is_region_inside, is_base_inside, is_part_inside}
 use Rattle.wtf_image.specs.Saving.{last_now, region_now, with_one, regions_below, region_in, file_with, file_at, Says}
 use Rattle.wtf_image.specs.Shapes.{IsImage}
@@ -58,6 +58,7 @@ file_shown : (m : Shown) (f : FileRow) (o : Option Plain) → option_map (file_w
 file_shown m f None e = absurd (cc)
 file_shown m f (Some (NodeIs n)) e = absurd (cc)
 file_shown m f (Some (NamesAre names)) e = absurd (cc)
+file_shown m f (Some (CountIs n)) e = absurd (cc)
 file_shown m f (Some (LastIs n)) e = (n, cc)
 file_shown m f (Some (RegionIs end base entries)) e = absurd (cc)
 
@@ -110,6 +111,7 @@ module _ (servers : ℕ) (size : ℕ → ℕ → ℕ) where
   region_out r None row h e = absurd (cc)
   region_out r (Some (value.Node n)) row h e = absurd (cc)
   region_out r (Some (value.Names ns)) row h e = absurd (cc)
+  region_out r (Some (value.Count n)) row h e = absurd (cc)
   region_out r (Some (value.Last n)) row h e = absurd (cc)
   region_out r (Some (value.Region v)) row h e =
       let base : base_row v.base ≡ row.base = cc in

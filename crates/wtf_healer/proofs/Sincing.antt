@@ -40,6 +40,7 @@ module _ {S : Type 0} {kind : StoreKind S} (laws : KindLaws kind) where
   value_later old new sound g None h = tt
   value_later old new sound g (Some (value.Node n)) h = tt
   value_later old new sound g (Some (value.Names ns)) h = tt
+  value_later old new sound g (Some (value.Count n)) h = tt
   value_later old new sound g (Some (value.Last r)) h = tt
   value_later old new sound g (Some (value.Region v)) h =
       record { base = base_later old new sound g v.base h.base; entries = entries_later laws old new sound g v.list h.entries }

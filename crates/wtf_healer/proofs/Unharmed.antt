@@ -15,7 +15,7 @@ use Rattle.wtf_overlay.specs.Clips.{clip_list}
 use Rattle.wtf_overlay.specs.Meaning.{meaning}
 use Rattle.wtf_overlay.specs.Origin.{part_origin}
 use Rattle.wtf_overlay.proofs.Meanings.{All-meaning}
-use Rattle.wtf_values.specs.declared.key.Key.TheVariants.{Path, Dir, Inode, Region}
+use Rattle.wtf_values.specs.declared.key.Key.TheVariants.{Path, Dir, Inode, Region, Links}
 use Rattle.wtf_values.specs.declared.region.RegionValue.{RegionValue}
 use Rattle.wtf_values.specs.declared.region.Spill.{Spill}
 use Rattle.wtf_values.specs.declared.value.Value.{Value}
@@ -122,6 +122,7 @@ module _ (b : ℕ) (told : Told) (within : (p : Place) (byte : ℕ) → told p �
   read_value None = None
   read_value (Some (value.Node n)) = Some (value.Node n)
   read_value (Some (value.Names ns)) = Some (value.Names ns)
+  read_value (Some (value.Count n)) = Some (value.Count n)
   read_value (Some (value.Last n)) = Some (value.Last n)
   read_value (Some (value.Region v)) = Some (value.Region (read v))
 
@@ -132,6 +133,7 @@ module _ (b : ℕ) (told : Told) (within : (p : Place) (byte : ℕ) → told p �
   value_left None h = refl
   value_left (Some (value.Node n)) h = refl
   value_left (Some (value.Names ns)) h = refl
+  value_left (Some (value.Count n)) h = refl
   value_left (Some (value.Last n)) h = refl
   value_left (Some (value.Region v)) h = region_itself v h
 
@@ -139,6 +141,7 @@ module _ (b : ℕ) (told : Told) (within : (p : Place) (byte : ℕ) → told p �
   value_bytes None h = h
   value_bytes (Some (value.Node n)) h = h
   value_bytes (Some (value.Names ns)) h = h
+  value_bytes (Some (value.Count n)) h = h
   value_bytes (Some (value.Last n)) h = h
   value_bytes (Some (value.Region v)) h = read_bytes v h
 
@@ -149,6 +152,7 @@ module _ (b : ℕ) (told : Told) (within : (p : Place) (byte : ℕ) → told p �
   cases P region other None = other None
   cases P region other (Some (value.Node n)) = other (Some (value.Node n))
   cases P region other (Some (value.Names ns)) = other (Some (value.Names ns))
+  cases P region other (Some (value.Count n)) = other (Some (value.Count n))
   cases P region other (Some (value.Last n)) = other (Some (value.Last n))
   cases P region other (Some (value.Region v)) = region v
 
@@ -159,6 +163,7 @@ module _ (b : ℕ) (told : Told) (within : (p : Place) (byte : ℕ) → told p �
     live (Path p) = w (Path p)
     live (Dir p) = w (Dir p)
     live (Inode i) = w (Inode i)
+    live (Links i) = w (Links i)
     live (Region i r) = read_value (w (Region i r))
 
     map_left : MapBytes (is_told told) (is_listed b told) w → IsLiveMap b told none_lost w live
@@ -166,6 +171,7 @@ module _ (b : ℕ) (told : Told) (within : (p : Place) (byte : ℕ) → told p �
       paths = λ p. refl;
       dirs = λ p. refl;
       inodes = λ i. refl;
+      counts = λ i. refl;
       regions = λ i r. value_left (w (Region i r)) (h (Region i r));
     }
 
@@ -174,6 +180,7 @@ module _ (b : ℕ) (told : Told) (within : (p : Place) (byte : ℕ) → told p �
       paths = λ p. refl;
       dirs = λ p. refl;
       inodes = λ i. refl;
+      counts = λ i. refl;
       kinds = λ i r. cases (λ x l. IsRegion x → IsRegion l) (λ v k. tt) (λ o k. k) (w (Region i r));
       none = λ i r. cases (λ x l. region_of x ≡ None → region_of l ≡ None) (λ v no. absurd (cc)) (λ o no. no) (w (Region i r));
       there = λ i r. cases (λ x l. IsSome l → IsSome x) (λ v some. refl) (λ o some. some) (w (Region i r));
@@ -186,6 +193,7 @@ module _ (b : ℕ) (told : Told) (within : (p : Place) (byte : ℕ) → told p �
     map_bytes h (Path p) = h (Path p)
     map_bytes h (Dir p) = h (Dir p)
     map_bytes h (Inode i) = h (Inode i)
+    map_bytes h (Links i) = h (Links i)
     map_bytes h (Region i r) = value_bytes (w (Region i r)) (h (Region i r))
 
 pub all_live : (told : Told) (bytes : List ℕ) (t : Tree) → ((p : Place) (byte : ℕ) → told p ≡ Some byte → p.file < 8) → IsImageOfTree told bytes t

@@ -12,7 +12,7 @@ use Rattle.wtf_overlay.specs.declared.part.Part.TheVariants.{Zero, Held}
 use Rattle.wtf_overlay.specs.declared.part.Entry.{Entry}
 use Rattle.wtf_overlay.specs.Clips.{clip_list}
 use Rattle.wtf_values.specs.declared.key.Key.{Key}
-use Rattle.wtf_values.specs.declared.key.Key.TheVariants.{Path, Dir, Inode, Region}
+use Rattle.wtf_values.specs.declared.key.Key.TheVariants.{Path, Dir, Inode, Region, Links}
 use Rattle.wtf_values.specs.declared.region.RegionValue.{RegionValue}
 use Rattle.wtf_values.specs.declared.region.Spill.{Spill}
 use Rattle.wtf_values.specs.declared.value.Value.{Value}
@@ -85,17 +85,20 @@ IsLiveValue b told lost (Some (value.Region v)) (Some (value.Region u)) = IsLive
 IsLiveValue b told lost (Some (value.Region v)) None = ⊥
 IsLiveValue b told lost (Some (value.Region v)) (Some (value.Node n)) = ⊥
 IsLiveValue b told lost (Some (value.Region v)) (Some (value.Names ns)) = ⊥
+IsLiveValue b told lost (Some (value.Region v)) (Some (value.Count n)) = ⊥
 IsLiveValue b told lost (Some (value.Region v)) (Some (value.Last n)) = ⊥
 IsLiveValue b told lost (Some (value.Node n)) now = now ≡ Some (value.Node n)
 IsLiveValue b told lost (Some (value.Names ns)) now = now ≡ Some (value.Names ns)
+IsLiveValue b told lost (Some (value.Count n)) now = now ≡ Some (value.Count n)
 IsLiveValue b told lost (Some (value.Last n)) now = now ≡ Some (value.Last n)
 IsLiveValue b told lost None now = now ≡ None
 
--- paths, directories and files stay, and each region is read
+-- paths, directories, files and numbers of paths stay, and each region is read
 pub record IsLiveMap (b : ℕ) (told : Told) (lost : ℕ → Bool) (w live : Map) : Type 0 where
   pub paths : (p : List ℕ) → live (Path p) ≡ w (Path p)
   pub dirs : (p : List ℕ) → live (Dir p) ≡ w (Dir p)
   pub inodes : (i : InodeId) → live (Inode i) ≡ w (Inode i)
+  pub counts : (i : InodeId) → live (Links i) ≡ w (Links i)
   pub regions : (i : InodeId) (r : ℕ) → IsLiveValue b told lost (w (Region i r)) (live (Region i r))
 
 -- The bytes are an image, and what it says of each key, where only the copies on servers that are left are looked at, stands for the
