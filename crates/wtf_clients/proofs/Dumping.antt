@@ -88,6 +88,7 @@ module _ (b : ℕ) (told : Told) (w : Map) where
   none_at None (Some n) h is = absurd h
   none_at (Some (value.Node n)) o h is = absurd (cc)
   none_at (Some (value.Names s)) o h is = absurd h
+  none_at (Some (value.Count n)) o h is = absurd h
   none_at (Some (value.Last r)) o h is = absurd h
   none_at (Some (value.Region g)) o h is = absurd h
 
@@ -98,6 +99,7 @@ module _ (b : ℕ) (told : Told) (w : Map) where
   folder_at (Some (value.Node Folder)) (Some (File paths bytes)) h is = absurd h
   folder_at (Some (value.Node (FileNode i))) o h is = absurd (cc)
   folder_at (Some (value.Names s)) o h is = absurd h
+  folder_at (Some (value.Count n)) o h is = absurd h
   folder_at (Some (value.Last r)) o h is = absurd h
   folder_at (Some (value.Region g)) o h is = absurd h
 

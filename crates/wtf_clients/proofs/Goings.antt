@@ -47,6 +47,7 @@ module _ (size : ℕ) (told later : Told) (on : TellsOn told later) where
       by None k b = tt
       by (Some (value.Node n)) k b = tt
       by (Some (value.Names ns)) k b = tt
+      by (Some (value.Count n)) k b = tt
       by (Some (value.Last r)) k b = tt
       by (Some (value.Region v)) k b = region_had size told later P on (Some v) k b
 

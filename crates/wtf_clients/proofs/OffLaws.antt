@@ -98,6 +98,7 @@ module _ (set : Place → Bool) (b : ℕ) (told : Told) (F G : Tests) (pass : Pa
   value_passes None h here = tt
   value_passes (Some (value.Node n)) h here = tt
   value_passes (Some (value.Names ns)) h here = tt
+  value_passes (Some (value.Count n)) h here = tt
   value_passes (Some (value.Last r)) h here = tt
   value_passes (Some (value.Region v)) h here = region_passes v h here
 

@@ -75,12 +75,14 @@ module _ (set : Place → Bool) (told later : Told) (on : TellsWhere set told la
         };
         lead = h.lead;
         all = h.all;
+        count = h.count;
       }
   node_where w (Some (value.Node Folder)) (Some (File paths bytes)) here h = absurd h
   node_where w (Some (value.Node (FileNode i))) (Some Dir) here h = absurd h
   node_where w (Some (value.Node Folder)) None here h = absurd h
   node_where w (Some (value.Node (FileNode i))) None here h = absurd h
   node_where w (Some (value.Names ns)) o here h = absurd h
+  node_where w (Some (value.Count n)) o here h = absurd h
   node_where w (Some (value.Last r)) o here h = absurd h
   node_where w (Some (value.Region v)) o here h = absurd h
 
@@ -90,11 +92,12 @@ module _ (set : Place → Bool) (told later : Told) (on : TellsWhere set told la
     tree_is = st.tree_is;
     nodes = λ p. node_where w (w (Path p)) _ here (st.nodes p);
     names = st.names;
-    apart = st.apart;
     led = st.led;
     regions = st.regions;
+    counted = st.counted;
     bytes = map_passes set b told (is_told told, is_listed b told) (is_told later, is_listed b later) told_on w st.bytes here;
     fresh = st.fresh;
+    few = st.few;
   }
 
   -- ---- transactions

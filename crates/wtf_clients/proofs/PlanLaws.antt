@@ -39,6 +39,7 @@ pub leads_at : (v : Option Value) (i : InodeId) → node_of v ≡ Some (FileNode
 leads_at None i is = absurd (cc)
 leads_at (Some (value.Node n)) i is = let same : n ≡ FileNode i = cc in ap (λ m. Some (value.Node m)) same
 leads_at (Some (value.Names s)) i is = absurd (cc)
+leads_at (Some (value.Count n)) i is = absurd (cc)
 leads_at (Some (value.Last r)) i is = absurd (cc)
 leads_at (Some (value.Region g)) i is = absurd (cc)
 

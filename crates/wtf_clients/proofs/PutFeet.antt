@@ -26,7 +26,7 @@ use Rattle.wtf_clients.specs.Views.{metadata_now}
 use Rattle.wtf_clients.specs.Touched.{above, SinceBase}
 use Rattle.wtf_clients.proofs.AboveLaws.{above-version}
 use Rattle.wtf_clients.proofs.SinceLaws.{TouchedSince, touched_installed, since_installed}
-use Rattle.wtf_clients.proofs.TouchLaws.{HasNone}
+use Rattle.wtf_clients.proofs.TouchLaws.{HasNone, has_none}
 
 -- ---- what a put does to a map
 
@@ -73,20 +73,23 @@ module _ (x : JobView) (old new : Store Key Value) (n : ℕ) (put : IsJobPut x o
   -- where the map stood for a tree before and does after
   module _ (size : ℕ) (told later : Told) (t : Tree) (tx : ℕ) (was : Stands size told tx 0 (metadata_now old) t)
       (is : Stands size later tx 0 (metadata_now new) t) where
-    put_regions : HasNone (with (job_edits x) (metadata_now old))
-    put_regions = subst HasNone put_map is.regions
+    none_before : HasNone (metadata_now old)
+    none_before = has_none size told tx 0 (metadata_now old) t was
+
+    none_after : HasNone (with (job_edits x) (metadata_now old))
+    none_after = subst HasNone put_map (has_none size later tx 0 (metadata_now new) t is)
 
     pub put_touched : (base : ℕ) (items : List Item) → metadata_at new base ≡ metadata_at old base → TouchedSince old base items
         → TouchedSince new base (items ++ changed)
     put_touched base items at since =
         touched_installed (suc tx) old new [] (job_edits x) n [] changed (put_feet (suc tx) (metadata_now old) x changed each)
-        (put_own x.target.inode x.target.region (suc tx) x.value (metadata_now old)) was.regions put_regions put_map put.versions base items at since
+        (put_own x.target.inode x.target.region (suc tx) x.value (metadata_now old)) none_before none_after put_map put.versions base items at since
 
     pub put_since : (base : ℕ) (items : List Item) → metadata_at new base ≡ metadata_at old base → SinceBase old tx base items
         → SinceBase new tx base (items ++ changed)
     put_since base items at since =
         since_installed (suc tx) old new [] (job_edits x) n [] changed (put_feet (suc tx) (metadata_now old) x changed each)
-        (put_own x.target.inode x.target.region (suc tx) x.value (metadata_now old)) was.regions put_regions put_map put.versions tx base items
+        (put_own x.target.inode x.target.region (suc tx) x.value (metadata_now old)) none_before none_after put_map put.versions tx base items
         (λ e. absurd (omega (arith, e))) at since
 
 -- ---- the cause of a stale job

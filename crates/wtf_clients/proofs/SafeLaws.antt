@@ -88,6 +88,7 @@ map_region P Q w h i k = by (w (Region i k)) (h (Region i k))
     by None b = tt
     by (Some (value.Node n)) b = tt
     by (Some (value.Names ns)) b = tt
+    by (Some (value.Count n)) b = tt
     by (Some (value.Last r)) b = tt
     by (Some (value.Region v)) b = b
 

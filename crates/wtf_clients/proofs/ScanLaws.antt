@@ -48,6 +48,7 @@ keys_bytes P Q w kinds regions q = by q (w q) refl
     of_region None h = tt
     of_region (Some (value.Node n)) h = tt
     of_region (Some (value.Names ns)) h = tt
+    of_region (Some (value.Count n)) h = tt
     of_region (Some (value.Last r)) h = tt
     of_region (Some (value.Region v)) h = h
 
@@ -55,6 +56,7 @@ keys_bytes P Q w kinds regions q = by q (w q) refl
     no_region r None is none = tt
     no_region r (Some (value.Node n)) is none = tt
     no_region r (Some (value.Names ns)) is none = tt
+    no_region r (Some (value.Count n)) is none = tt
     no_region r (Some (value.Last l)) is none = tt
     no_region r (Some (value.Region v)) is none = absurd (true≢false (sym (kinds r v is) ∙ none))
 
@@ -62,6 +64,7 @@ keys_bytes P Q w kinds regions q = by q (w q) refl
     by (key.Path p) v is = no_region (key.Path p) v is refl
     by (key.Dir p) v is = no_region (key.Dir p) v is refl
     by (key.Inode i) v is = no_region (key.Inode i) v is refl
+    by (key.Links i) v is = no_region (key.Links i) v is refl
     by (key.Region i k) v is = of_region v (subst (λ o. MaybeBytes P Q (region_of o)) is (regions i k))
 
 -- a transaction or a job whose map at its base stays names still only what is its own

@@ -246,6 +246,7 @@ module _ (size : ℕ) (told : Told) (old new : TablesView) (sound : AreSound old
         by None is = tt
         by (Some (value.Node d)) is = tt
         by (Some (value.Names ns)) is = tt
+        by (Some (value.Count n)) is = tt
         by (Some (value.Last l)) is = tt
         by (Some (value.Region v)) is =
             let (number, among) = value_among key_cmp new.kv m (Region i k) (value.Region v) (ap (λ (w : Map). w (Region i k)) (maps m readable) ∙ is) in

@@ -86,7 +86,7 @@ module _ (old new : Store Key Value) (tx base : ℕ) (items : List Item) (was : 
 -- ---- another's install
 
 module _ (other : ℕ) (old new : Store Key Value) (ks : List Key) (cs : Edits) (n : ℕ) (R W : List Item) (feet : Feet other (metadata_now old) ks cs R W)
-    (own : Own other (metadata_now old) (with cs (metadata_now old))) (regions : HasNone (metadata_now old)) (later : HasNone (with cs (metadata_now old)))
+    (own : Own other (metadata_now old) (with cs (metadata_now old))) (sooner : HasNone (metadata_now old)) (later : HasNone (with cs (metadata_now old)))
     (now : metadata_now new ≡ with cs (metadata_now old))
     (versions : (q : Key) → versions_of key_cmp new q ≡ versions_with key_cmp outcome_of cs n q (metadata_now old q) (versions_of key_cmp old q)) where
   added : (b : ℕ) → IsAdded cs (metadata_now old) (above old b) (above new b)
@@ -105,7 +105,7 @@ module _ (other : ℕ) (old new : Store Key Value) (ks : List Key) (cs : Edits) 
   since_installed tx base items apart at was = record {
     touched = touched_installed base items at was.touched;
     own = subst (λ w. OwnStill tx w (above new base)) (sym now)
-        (own_on tx other (metadata_now old) cs (above old base) (above new base) apart own regions later (added base) was.own);
+        (own_on tx other (metadata_now old) cs (above old base) (above new base) apart own sooner later (added base) was.own);
   }
 
 -- ---- the cause of a retry

@@ -9,17 +9,19 @@ use Rattle.wtf_kv.specs.Stores.{Store, version_of}
 use Rattle.wtf_occ.specs.Attempts.{Attempted}
 use Rattle.wtf_occ.specs.Tries.{key_in_the_way}
 use Rattle.wtf_model.specs.declared.item.Item.{Item}
-use Rattle.wtf_model.specs.declared.item.Item.TheVariants.{NodeOf, NamesOf, BodyOf}
+use Rattle.wtf_model.specs.declared.item.Item.TheVariants.{NodeOf, NamesOf, BodyOf, LinksOf}
 use Rattle.wtf_model.specs.Items.{is_among, meets}
 use Rattle.wtf_model.proofs.ItemLaws.{is_among-left, is_among-right, meets-by}
 use Rattle.wtf_values.specs.declared.key.Key.{Key}
-use Rattle.wtf_values.specs.declared.key.Key.TheVariants.{Path, Dir, Inode, Region}
+use Rattle.wtf_values.specs.declared.key.Key.TheVariants.{Path, Dir, Inode, Region, Links}
 use Rattle.wtf_values.specs.declared.value.Value.{Value}
 use Rattle.wtf_values.specs.declared.value.Delta.{Delta}
 use Rattle.wtf_values.specs.Keys.{key_cmp}
 use Rattle.wtf_values.specs.Outcomes.{outcome_of}
 use Rattle.wtf_meta.specs.Maps.{Map, Edits, with, metadata_at}
-use Rattle.wtf_meta.specs.Trees.{LeadsTo, Own}
+use Rattle.wtf_meta.specs.Trees.{LeadsTo, Own, Stands}
+use Rattle.wtf_meta.specs.Contents.{Told}
+use Rattle.wtf_model.specs.Tree.{Tree}
 use Rattle.wtf_meta.specs.Feet.{Has, ReadBy, WrittenBy, EachWritten, Feet}
 use Rattle.wtf_meta.proofs.FeetLaws.{read_in_the_way, written_at}
 use Rattle.wtf_clients.specs.Touched.{above, NoneMoved, IsFileStill, Touched, OwnStill}
@@ -68,6 +70,20 @@ module _ (other : ℕ) (base old : Map) (before after : Key → Bool) (items : L
     },
   )
 
+  -- nor has it another number of paths, where these were not
+  links_by : (p : List ℕ) (i : InodeId) → LeadsTo old p i → before (Links i) ≡ false
+      → (Has (NodeOf p) W ⊎ Has (LinksOf p) W) ⊎ (LeadsTo (with cs old) p i × (after (Links i) ≡ false))
+  links_by p i to none = ⊎_elim
+      (λ there. ⊎_elim
+      (λ now. ⊎_elim
+      (λ was. absurd (both_ways (before (Links i)) none was))
+      (λ written. inl (written p to))
+      (moved_by (Links i) now))
+      (λ no. inr (there, no))
+      (cases_Bool (after (Links i))))
+      (λ gone. inl (inl gone.0))
+      (feet.stays p i to)
+
   -- with what it wrote
   pub touched_on : Touched base (with cs old) after (items ++ W)
   touched_on = record {
@@ -86,27 +102,35 @@ module _ (other : ℕ) (base old : Map) (before after : Key → Bool) (items : L
         (λ none. inr (still_by p i still.0 still.1 none))
         (cases_Bool (is_among W (BodyOf p))))
         (touched.bodies p i to);
+    links = λ p i to. ⊎_elim
+        (λ was. inl (⊎_elim (λ node. inl (is_among-left items W (NodeOf p) node)) (λ links. inr (is_among-left items W (LinksOf p) links)) was))
+        (λ still. ⊎_elim
+        (λ wrote. inl (⊎_elim (λ node. inl (is_among-right items W (NodeOf p) node)) (λ links. inr (is_among-right items W (LinksOf p) links)) wrote))
+        (λ none. inr none)
+        (links_by p i still.0 still.1))
+        (touched.links p i to);
   }
 
--- where regions are of files that stand, a file that stands nowhere has none
-abbrev pub HasNone : Map → Type 0
-HasNone w = (i : InodeId) (r : ℕ) → IsSome (w (Region i r)) → IsSome (w (Inode i))
+-- where regions and numbers of paths are of files that stand, a file that stands nowhere has none
+pub record HasNone (w : Map) : Type 0 where
+  pub regions : (i : InodeId) (r : ℕ) → IsSome (w (Region i r)) → IsSome (w (Inode i))
+  pub counts : (i : InodeId) → IsSome (w (Links i)) → IsSome (w (Inode i))
+
+pub has_none : (b : ℕ) (told : Told) (tx k : ℕ) (w : Map) (t : Tree) → Stands b told tx k w t → HasNone w
+has_none b told tx k w t st = record { regions = st.regions; counts = st.counted }
 
 some_of_none : (o : Option Value) → o ≡ None → IsSome o → ⊥
 some_of_none None none some = cc
 some_of_none (Some v) none some = cc
 
-no_region : (w : Map) (i : InodeId) (r : ℕ) → HasNone w → w (Inode i) ≡ None → w (Region i r) ≡ None
-no_region w i r regions none = by (w (Region i r)) (regions i r)
-  where
-    by : (o : Option Value) → (IsSome o → IsSome (w (Inode i))) → o ≡ None
-    by None h = refl
-    by (Some v) h = absurd (some_of_none (w (Inode i)) none (h refl))
+no_key : (o inode : Option Value) → (IsSome o → IsSome inode) → inode ≡ None → o ≡ None
+no_key None inode h none = refl
+no_key (Some v) inode h none = absurd (some_of_none inode none (h refl))
 
 -- the transaction's own files stand nowhere after it, and have not moved
 pub own_on : (tx other : ℕ) (old : Map) (cs : Edits) (before after : Key → Bool) → tx ≢ other → Own other old (with cs old)
     → HasNone old → HasNone (with cs old) → IsAdded cs old before after → OwnStill tx old before → OwnStill tx (with cs old) after
-own_on tx other old cs before after apart own regions later added was =
+own_on tx other old cs before after apart own sooner later added was =
     let gone : (i : InodeId) → i.tx.0 ≡ tx → with cs old (Inode i) ≡ None = λ i mine. own i (λ e. apart (sym mine ∙ e)) (was.none i mine) in
     let still : (q : Key) → before q ≡ false → old q ≡ None → with cs old q ≡ None → after q ≡ false = λ q then a b.
     false_from_ne_true (after q) (λ now. ⊎_elim (λ moved. both_ways (before q) then moved) (λ made. none_made old cs q a b made) (added q now)) in
@@ -115,9 +139,12 @@ own_on tx other old cs before after apart own regions later added was =
       still = λ i mine. record {
         inode = still (Inode i) (was.still i mine).inode (was.none i mine) (gone i mine);
         regions = λ r. still (Region i r) ((was.still i mine).regions r)
-            (no_region old i r regions (was.none i mine))
-            (no_region (with cs old) i r later (gone i mine));
+            (no_key (old (Region i r)) (old (Inode i)) (sooner.regions i r) (was.none i mine))
+            (no_key (with cs old (Region i r)) (with cs old (Inode i)) (later.regions i r) (gone i mine));
       };
+      links = λ i mine. still (Links i) (was.links i mine)
+          (no_key (old (Links i)) (old (Inode i)) (sooner.counts i) (was.none i mine))
+          (no_key (with cs old (Links i)) (with cs old (Inode i)) (later.counts i) (gone i mine));
     }
 
 -- ---- at the base, and where nothing was installed
@@ -128,6 +155,7 @@ touched_none w moved none = record {
   nodes = λ p now. absurd (both_ways (moved (Path p)) (none (Path p)) now);
   lists = λ p now. absurd (both_ways (moved (Dir p)) (none (Dir p)) now);
   bodies = λ p i to. inr (to, record { inode = none (Inode i); regions = λ r. none (Region i r) });
+  links = λ p i to. inr (to, none (Links i));
 }
 
 pub own_none : (tx : ℕ) (w : Map) (moved : Key → Bool) → ((i : InodeId) → i.tx.0 ≡ tx → w (Inode i) ≡ None) → ((q : Key) → moved q ≡ false)
@@ -135,6 +163,7 @@ pub own_none : (tx : ℕ) (w : Map) (moved : Key → Bool) → ((i : InodeId) �
 own_none tx w moved gone none = record {
   none = gone;
   still = λ i mine. record { inode = none (Inode i); regions = λ r. none (Region i r) };
+  links = λ i mine. none (Links i);
 }
 
 module _ (before after : Key → Bool) (fewer : NoneMoved before after) where
@@ -144,16 +173,24 @@ module _ (before after : Key → Bool) (fewer : NoneMoved before after) where
     regions = λ r. false_from_ne_true (after (Region i r)) (λ now. both_ways (before (Region i r)) (still.regions r) (fewer (Region i r) now));
   }
 
+  links_along : (i : InodeId) → before (Links i) ≡ false → after (Links i) ≡ false
+  links_along i none = false_from_ne_true (after (Links i)) (λ now. both_ways (before (Links i)) none (fewer (Links i) now))
+
   -- where no key moves, and the maps stay, what was touched does
   pub touched_along : (base now : Map) (items : List Item) → Touched base now before items → Touched base now after items
   touched_along base now items t = record {
     nodes = λ p moved. t.nodes p (fewer (Path p) moved);
     lists = λ p moved. t.lists p (fewer (Dir p) moved);
     bodies = λ p i to. ⊎_elim (λ was. inl was) (λ still. inr (still.0, still_along i still.1)) (t.bodies p i to);
+    links = λ p i to. ⊎_elim (λ was. inl was) (λ still. inr (still.0, links_along i still.1)) (t.links p i to);
   }
 
   pub own_along : (tx : ℕ) (now : Map) → OwnStill tx now before → OwnStill tx now after
-  own_along tx now own = record { none = own.none; still = λ i mine. still_along i (own.still i mine) }
+  own_along tx now own = record {
+    none = own.none;
+    still = λ i mine. still_along i (own.still i mine);
+    links = λ i mine. links_along i (own.links i mine);
+  }
 
 -- ---- the cause of a retry
 
@@ -165,6 +202,13 @@ module _ (tx : ℕ) (base now : Map) (moved : Key → Bool) (items R : List Item
       (λ still. absurd (not_still still.1))
       (touched.bodies p i to)
 
+  -- its number of paths, where that has moved
+  met_links : (p : List ℕ) (i : InodeId) → LeadsTo base p i → Has (NodeOf p) R → Has (LinksOf p) R → moved (Links i) ≡ true → meets items R ≡ true
+  met_links p i to node links is = ⊎_elim
+      (λ was. ⊎_elim (λ there. meets-by items R (NodeOf p) there node) (λ there. meets-by items R (LinksOf p) there links) was)
+      (λ still. absurd (both_ways (moved (Links i)) still.1 is))
+      (touched.links p i to)
+
   -- a key that has moved, and belongs to an item that was read
   pub met : (q : Key) → ReadBy tx base R q → moved q ≡ true → meets items R ≡ true
   met (Path p) read is = meets-by items R (NodeOf p) (touched.nodes p is) read
@@ -173,6 +217,8 @@ module _ (tx : ℕ) (base now : Map) (moved : Key → Bool) (items R : List Item
   met (Inode i) (inr h) is = met_body h.path i h.leads h.body (λ still. both_ways (moved (Inode i)) still.inode is)
   met (Region i r) (inl mine) is = absurd (both_ways (moved (Region i r)) ((own.still i mine).regions r) is)
   met (Region i r) (inr h) is = met_body h.path i h.leads h.body (λ still. both_ways (moved (Region i r)) (still.regions r) is)
+  met (Links i) (inl mine) is = absurd (both_ways (moved (Links i)) (own.links i mine) is)
+  met (Links i) (inr h) is = met_links h.path i h.leads h.node h.links is
 
 -- The key in the way of an install was recorded, or is that of a change that finds no room, so it is of an item that was read; and it
 -- has moved, so that the item was touched.

@@ -9,7 +9,6 @@ ghost use Rattle.wtf_model.specs.declared.event.Event.TheVariants as event;
 ghost use Rattle.wtf_meta.specs.Bytes.{any_slice};
 ghost use Rattle.wtf_region.specs.Cached.{Remembered};
 ghost use Rattle.wtf_region.specs.Inside.{is_inside};
-ghost use Rattle.wtf_clients.specs.Sounds.{AreSound};
 ghost use Rattle.wtf_clients.specs.Named.{TablesBytes};
 ghost use Rattle.wtf_clients.specs.Asked.{lending};
 ghost use Rattle.wtf_clients.specs.Leaving.{LeavesAlone};

@@ -1,12 +1,12 @@
 -- Attempts, replayed steps, commits and ends keep what the tables stand for.
 -- NSDI 2016, sections 2.6 and 2.7.
-use Rattle.std.proofs.Common.{◌≡◌, ◌≢◌, suc, ◌≤◌, ◌<◌, ℕ, ◌+◌, ◌-◌, Bool, true, false, List, [], length, take, None, Some, refl, sym, ap, ◌∙◌, subst}
-use Rattle.std.proofs.Common.{arith, slice_get}
+use Rattle.std.proofs.Common.{◌≡◌, ◌≢◌, suc, ◌≤◌, ◌<◌, ◌^◌, ℕ, ◌+◌, ◌-◌, Bool, true, false, List, [], length, take, None, Some}
+use Rattle.std.proofs.Common.{refl, sym, ap, ◌∙◌, subst, arith, slice_get}
 use Rattle.std.proofs.Math.Seq.{take-length}
 use Rattle.std.proofs.lemmas.Bool.{eqb-true}
 use Rattle.std.specs.Prelude.{if◌then◌else◌}
 use Rattle.std.specs.Option.{option_map}
-use Rattle.std.specs.FinMap.{get, remove}
+use Rattle.std.specs.FinMap.{get, remove, len}
 use Rattle.wtf_base.specs.declared.ids.InodeId.{InodeId}
 use Rattle.wtf_kv.specs.Stores.{Store, versions_of, version_of}
 use Rattle.wtf_values.specs.declared.key.Key.{Key}
@@ -26,7 +26,9 @@ use Rattle.wtf_model.specs.Lawful.{Deviates, IsDone, IsReadFault, MayInstall, Ma
 use Rattle.wtf_model.specs.Steps.{with_transaction, ended, touch, touch_job, with_each, installed, rebased as machine_rebased, tried, stepped, committed}
 use Rattle.wtf_model.proofs.Laws.{get-number_same, get-number_other}
 use Rattle.wtf_model.proofs.ItemLaws.{get-each, get-each_none}
-use Rattle.wtf_log.proofs.StandingLaws.{OpsStandFor-length}
+use Rattle.wtf_model.specs.declared.limits.TheConstants.{MAX_LOGGED}
+use Rattle.wtf_model.proofs.Growth.{len-session_after}
+use Rattle.wtf_log.proofs.StandingLaws.{OpsStandFor-length, OpsStandFor-form}
 use Rattle.wtf_meta.specs.Maps.{Map, with, metadata_at}
 use Rattle.wtf_meta.specs.Contents.{Told}
 use Rattle.wtf_meta.specs.Trees.{Stands}
@@ -34,7 +36,7 @@ use Rattle.wtf_meta.proofs.Telling.{TellsOn}
 use Rattle.wtf_meta.specs.Calls.{cap_for}
 use Rattle.wtf_meta.specs.Feet.{Feet}
 use Rattle.wtf_replay.specs.Views.{TxnView, is_txn_live}
-use Rattle.wtf_replay.specs.Fits.{IsFit}
+use Rattle.wtf_replay.specs.Fits.{IsFit, IsLog}
 use Rattle.wtf_replay.specs.Refusals.{try_refusal, step_refusal}
 use Rattle.wtf_replay.specs.Sounds.{LogStands, tells_slice, caller_at}
 use Rattle.wtf_replay.specs.Tried.{IsFinal, KeepsVersions}
@@ -49,10 +51,12 @@ use Rattle.wtf_clients.specs.Standing.{StandsForTxn, StandsForSlot, TablesStand}
 use Rattle.wtf_clients.specs.Turns.{AreTrue, SetsClientAlone, Ends, Commits, Retries, Tries, Replays, Aborts, StepFails, Finishes, GivesUp, StepTurn, Finals}
 use Rattle.wtf_clients.proofs.Images.{before_same, before_own}
 use Rattle.wtf_clients.proofs.Later.{Stands-later}
+use Rattle.wtf_clients.proofs.TouchLaws.{has_none}
 use Rattle.wtf_clients.proofs.SinceLaws.{since_none, touched_installed, since_installed, retry_met}
 use Rattle.wtf_clients.proofs.Frames.{Turned, stands_turned, stands_kept}
 use Rattle.wtf_clients.proofs.Soundness.{ends_turned, retry_turned}
 use Rattle.wtf_clients.proofs.Staying.{stays_stand, goes_turned}
+use Rattle.wtf_core.specs.Standing.{IsSmall}
 use Rattle.wtf_core.proofs.Machines.{gone_here, gone_there, cap_is, answer_shown}
 
 -- ---- one client's transaction
@@ -78,19 +82,30 @@ pub done_all : (size : ℕ) (kv : Store Key Value) (told : Told) (x : TxnView) (
     → x.replayed ≡ length x.log.ops → take x.replayed ops ≡ ops
 done_all size kv told x ops sound live = ap (λ n. take n ops) (live ∙ OpsStandFor-length (tells_slice told) x.log.ops ops sound.ops_are) ∙ take-length ops
 
--- a map stands for its tree for another transaction too, where it has none of its inodes
+-- a map stands for its tree for another transaction too, where it has none of its inodes, and the tree has few paths
 stands_other : (b : ℕ) (told : Told) (tx other k : ℕ) (w : Map) (t : Tree) → Stands b told tx k w t
-    → ((i : InodeId) → i.tx.0 ≡ other → 0 < i.index → w (Inode i) ≡ None) → Stands b told other 0 w t
-stands_other b told tx other k w t st none = record {
+    → ((i : InodeId) → i.tx.0 ≡ other → 0 < i.index → w (Inode i) ≡ None) → len t < 2 ^ 63 → Stands b told other 0 w t
+stands_other b told tx other k w t st none small = record {
   tree_is = st.tree_is;
   nodes = st.nodes;
   names = st.names;
-  apart = st.apart;
   led = st.led;
   regions = st.regions;
+  counted = st.counted;
   bytes = st.bytes;
   fresh = none;
+  few = omega (arith, small);
 }
+
+-- a small tree on which the calls of a transaction ran has few paths
+few_behind : (size : ℕ) (told : Told) (kv : Store Key Value) (now : Tree) (x : TxnView) (t : Transaction) (cap : ℕ) → IsLog x.log
+    → StandsForTxn size told kv now x t → len now < 2 ^ 61 → len (session_after cap now t.ops).tree < 2 ^ 63
+few_behind size told kv now x t cap log txn small =
+    let form = OpsStandFor-form (tells_slice told) x.log.ops t.ops log.form txn.sound.ops_are in
+    let more : len (session_after cap now t.ops).tree ≤ len now + length t.ops = len-session_after cap now t.ops form txn.now.tree_is in
+    let same : length x.log.ops ≡ length t.ops = OpsStandFor-length (tells_slice told) x.log.ops t.ops txn.sound.ops_are in
+    let most : length x.log.ops ≤ MAX_LOGGED = log.few in
+    omega (arith, small, more, same, most)
 
 -- ---- a transaction that has ended
 module _ (old new : TablesView) (mid : Store Key Value) (c : ℕ) (x : TxnView) (sound : AreSound old) (here : of_client old.clients c ≡ Some x)
@@ -124,10 +139,10 @@ module _ (old new : TablesView) (mid : Store Key Value) (c : ℕ) (x : TxnView) 
       (subst (λ o. StandsForSlot size later new.kv m.now None o) (sym (gone_here m.transactions c)) tt)
 
   -- an install: the calls run on the tree now, and what they change is touched
-  pub installs_stand : (size : ℕ) (told later : Told) (m : Machine) (t : Transaction) (n : ℕ) → TablesStand size told old m → TellsOn told later
+  pub installs_stand : (size : ℕ) (told later : Told) (m : Machine) (t : Transaction) (n : ℕ) → IsSmall m → TablesStand size told old m → TellsOn told later
       → m.settings.region ≡ size → get m.transactions c ≡ Some t
       → IsFinal size later old.kv mid x t.ops n → MayInstall m t n × TablesStand size later new (installed m c t n)
-  installs_stand size told later m t n st on region there final =
+  installs_stand size told later m t n small st on region there final =
       let txn = txn_in size told old m c x t st here there in
       let was : Stands size later x.tx 0 (metadata_now old.kv) m.now = Stands-later told later on size x.tx 0 (metadata_now old.kv) m.now txn.now in
       let ran = final_ran size later old.kv mid x t.ops n final m.now was in
@@ -147,14 +162,16 @@ module _ (old new : TablesView) (mid : Store Key Value) (c : ℕ) (x : TxnView) 
         (final.next ∙ ap (λ k. k + 1) (sym st.number), ap (λ k. answers_of k m.now t.ops) cap ∙ ran.answers ∙ sym txn.shown),
         stands_turned size told later old new m (installed m c t n) c None wrote sound st on end_turned
             (λ d ne. get-each (touch wrote) (remove m.transactions c) d ∙ ap (option_map (touch wrote)) (gone_there m.transactions c d ne))
-            (λ d y items ne its since. since_installed x.tx old.kv new.kv final.at.reads final.at.changes n read wrote feet ran.own txn.now.regions
-            stands.regions map
+            (λ d y items ne its since. since_installed x.tx old.kv new.kv final.at.reads final.at.changes n read wrote feet ran.own
+            (has_none _ _ _ _ _ _ txn.now)
+            (has_none _ _ _ _ _ _ stands) map
             (λ q. ends_versions q ∙ final.versions q) y.tx y.at.base items
             (λ same. ne (sound.apart d c y x its here same))
             (end_turned.maps y.at.base (sound.each d y its).based) since)
             (λ l. get-each (touch_job wrote) m.jobs l)
-            (λ base items based was. touched_installed x.tx old.kv new.kv final.at.reads final.at.changes n read wrote feet ran.own txn.now.regions
-            stands.regions map
+            (λ base items based was. touched_installed x.tx old.kv new.kv final.at.reads final.at.changes n read wrote feet ran.own
+            (has_none _ _ _ _ _ _ txn.now)
+            (has_none _ _ _ _ _ _ stands) map
             (λ q. ends_versions q ∙ final.versions q) base items (end_turned.maps base based) was)
             (sym (ends_number ∙ final.number)) refl
             (before_same old.next_tx new.next_tx changed (metadata_now new.kv) map end_turned.more
@@ -163,7 +180,8 @@ module _ (old new : TablesView) (mid : Store Key Value) (c : ℕ) (x : TxnView) 
             (λ tx other was.
             subst (λ w. Stands size later tx 0 w now) (sym map)
             (stands_other size later x.tx tx (length t.ops) changed now stands
-            (λ i own some. ran.own i (λ e. other x here (sym own ∙ e)) (was.fresh i own some)))),
+            (λ i own some. ran.own i (λ e. other x here (sym own ∙ e)) (was.fresh i own some))
+            (few_behind size told old.kv m.now x t (cap_of m) (sound.each c x here).fit.log txn small))),
       )
 
 -- ---- a transaction that goes on at its base
@@ -266,15 +284,15 @@ commit_up old new c x n turn = let number = turn.committed.installed.number in l
 
 -- the machine may answer so, and the tables stand for what it then is
 pub tries_stand : (size : ℕ) (told later : Told) (old new : TablesView) (m : Machine) (c : ℕ) (x : TxnView) (t : Transaction) (a : Answer)
-    → AreSound old → m.settings.region ≡ size → TablesStand size told old m → TellsOn told later
+    → AreSound old → m.settings.region ≡ size → IsSmall m → TablesStand size told old m → TellsOn told later
     → of_client old.clients c ≡ Some x → get m.transactions c ≡ Some t → try_refusal x ≡ None
     → Tries old new c x a → MayTry m t a × TablesStand size later new (tried m c t a)
-tries_stand size told later old new m c x t (answer.Committed n) sound region st on here there asked turn =
-    installs_stand old new turn.mid c x sound here (commit_up old new c x n turn) turn.ends size told later m t n st on region there
+tries_stand size told later old new m c x t (answer.Committed n) sound region small st on here there asked turn =
+    installs_stand old new turn.mid c x sound here (commit_up old new c x n turn) turn.ends size told later m t n small st on region there
     (turn.final size later t.ops (sound_later size old.kv told later x t.ops on (txn_in size told old m c x t st here there).sound))
-tries_stand size told later old new m c x t (answer.Retry b n) sound region st on here there asked turn = retry_stand old new c x b n sound here turn size
+tries_stand size told later old new m c x t (answer.Retry b n) sound region small st on here there asked turn = retry_stand old new c x b n sound here turn size
     told later m t region st on there asked
-tries_stand size told later old new m c x t a sound region st on here there asked turn = absurd turn
+tries_stand size told later old new m c x t a sound region small st on here there asked turn = absurd turn
 
 -- ---- a step
 module _ (z : Seeing) (old new : TablesView) (c : ℕ) (x : TxnView) (i : ℕ)
@@ -405,20 +423,20 @@ give_up_may z old new c x i a m t turn region txn telling =
 -- the machine may answer so, and the tables stand for what it then is
 pub finals_stand : (z : Seeing) (old new : TablesView) (m : Machine) (c : ℕ) (x : TxnView)
     (t : Transaction) (a : Answer)
-    → AreSound old → m.settings.region ≡ z.size → m.settings.servers ≡ z.servers → TablesStand z.size z.told old m → TellsOn z.told z.later
+    → AreSound old → m.settings.region ≡ z.size → m.settings.servers ≡ z.servers → IsSmall m → TablesStand z.size z.told old m → TellsOn z.told z.later
     → of_client old.clients c ≡ Some x → get m.transactions c ≡ Some t → z.telling × AreTrue z.size z.told z.lists old
     → Finals z old new c x a → MayCommit m t a × TablesStand z.size z.later new (committed m c t a)
-finals_stand z old new m c x t (answer.Committed n) sound region count st on here there telling turn = installs_stand old new turn.mid c x sound here
-    (finish_up z old new c x n turn) turn.ends z.size z.told z.later m t n st on
+finals_stand z old new m c x t (answer.Committed n) sound region count small st on here there telling turn = installs_stand old new turn.mid c x sound here
+    (finish_up z old new c x n turn) turn.ends z.size z.told z.later m t n small st on
     region there
     (turn.final (telling.0, telling.1, (txn_in z.size z.told old m c x t st here there).tree.bytes)
     (telling.0, telling.1, (txn_in z.size z.told old m c x t st here there).now.bytes) t.ops (txn_in z.size z.told old m c x t st here there).sound)
-finals_stand z old new m c x t (Aborted' i box a) sound region count st on here there telling turn = (
+finals_stand z old new m c x t (Aborted' i box a) sound region count small st on here there telling turn = (
   give_up_may z old new c x i a m t turn region (txn_in z.size z.told old m c x t st here there) telling,
   leaves_stand old new turn.mid c x sound here (give_up z old new c x i a turn) turn.ends
       z.size z.told z.later m st on turn.number turn.versions,
 )
-finals_stand z old new m c x t a sound region count st on here there telling turn =
+finals_stand z old new m c x t a sound region count small st on here there telling turn =
     let txn = txn_in z.size z.told old m c x t st here there in (
       subst (λ n. IsReadFault n a) (sym count) (turn.may (telling.0, telling.1, txn.tree.bytes) (telling.0, telling.1, txn.now.bytes) t.ops txn.sound m.now
           txn.now),

@@ -1,5 +1,6 @@
 -- The bytes that an image names, once it is loaded: where all its pointers lie inside the stores, so do they.
-use Rattle.std.proofs.Common.{◌≡◌, ℕ, Bool, ◌+◌, ◌<◌, ◌≤◌, true, cond, nat_lt, nat_le, ◌&&◌, List, [], ◌∷◌, map, Option, None, Some, refl, sym, ap, subst, ◌∙◌}
+use Rattle.std.proofs.Common.{◌≡◌, ℕ, Bool, ◌+◌, ◌<◌, ◌≤◌, true, false, cond, nat_lt, nat_le, ◌&&◌, List, [], ◌∷◌, map, Option, None, Some, refl, sym, ap}
+use Rattle.std.proofs.Common.{subst, ◌∙◌}
 use Rattle.std.proofs.Common.{arith, inl, inr}
 use Rattle.std.specs.Prelude.{slice_get, ⊤}
 use Rattle.std.specs.List.{All, AllByRecursion, list_all, flat_map}
@@ -24,7 +25,7 @@ use Rattle.wtf_overlay.specs.declared.part.Part.TheVariants.{Zero, Held}
 use Rattle.wtf_overlay.specs.Lengths.{HasLength}
 use Rattle.wtf_overlay.specs.Origin.{Place}
 use Rattle.wtf_values.specs.declared.key.Key.{Key}
-use Rattle.wtf_values.specs.declared.key.Key.TheVariants.{Path, Dir, Inode, Region}
+use Rattle.wtf_values.specs.declared.key.Key.TheVariants.{Path, Dir, Inode, Region, Links}
 use Rattle.wtf_values.specs.declared.region.RegionValue.{RegionValue}
 use Rattle.wtf_values.specs.declared.region.Spill.{Spill}
 use Rattle.wtf_values.specs.declared.value.Node.{Node}
@@ -35,8 +36,9 @@ use Rattle.wtf_values.specs.Names.{NamesOf}
 use Rattle.wtf_meta.specs.Maps.{Map}
 use Rattle.wtf_meta.specs.Bytes.{PartBytes, EntryBytes, BaseBytes, RegionBytes, ValueBytes, MapBytes, any_slice}
 use Rattle.wtf_image.specs.Rows.{EntryRow, RegionRow, FileRow, ImageRows, part_row, base_row, entry_rows}
-use Rattle.wtf_image.specs.Lookups.{Plain, NodeIs, NamesAre, LastIs, RegionIs, plain, plain_region, names_of_node, names_under, node_at, last_at, place_cmp}
-use Rattle.wtf_image.specs.Lookups.{region_entry, region_entries, region_at, row_at}
+use Rattle.wtf_image.specs.Lookups.{Plain, NodeIs, NamesAre, LastIs, RegionIs, CountIs, plain, plain_region, names_of_node, names_under, node_at, last_at}
+use Rattle.wtf_image.specs.Lookups.{place_cmp}
+use Rattle.wtf_image.specs.Lookups.{region_entry, region_entries, region_at, times_named, count_row, row_at}
 use Rattle.wtf_image.specs.Rules.{are_inside, is_file_inside, is_region_inside, is_base_inside, is_part_inside}
 use Rattle.wtf_image.specs.Rules as rules
 use Rattle.wtf_image.proofs.SeedLaws.{find-both}
@@ -47,6 +49,7 @@ abbrev NoRegion : Option Plain → Type 0
 NoRegion None = ⊤
 NoRegion (Some (NodeIs n)) = ⊤
 NoRegion (Some (NamesAre names)) = ⊤
+NoRegion (Some (CountIs n)) = ⊤
 NoRegion (Some (LastIs n)) = ⊤
 NoRegion (Some (RegionIs end base entries)) = ⊥
 
@@ -63,12 +66,16 @@ last_none : (o : Option ℕ) → NoRegion (option_map LastIs o)
 last_none None = tt
 last_none (Some n) = tt
 
+count_none : (n : ℕ) → NoRegion (count_row n)
+count_none n = elim (nat_le 2 n) as (λ b. NoRegion (cond b (Some (CountIs n)) None)) [ true ↦ tt | false ↦ tt ]
+
 -- P and Q hold of all of a map that an image says, where they do of each region
 module _ (P : List Place → Bool) (Q : Slice → Bool) where
   no_region : (v : Option Value) (o : Option Plain) → option_map plain v ≡ o → NoRegion o → ValueBytes P Q v
   no_region None o e h = tt
   no_region (Some (value.Node n)) o e h = tt
   no_region (Some (value.Names s)) o e h = tt
+  no_region (Some (value.Count n)) o e h = tt
   no_region (Some (value.Last n)) o e h = tt
   no_region (Some (value.Region v)) o e h = absurd (subst NoRegion (sym e) h)
 
@@ -79,6 +86,7 @@ module _ (P : List Place → Bool) (Q : Slice → Bool) where
   region_value (Some (value.Region v)) (Some row) e each = let same : plain (value.Region v) ≡ plain_region row = cc in each v row refl same
   region_value (Some (value.Node n)) (Some row) e each = tt
   region_value (Some (value.Names s)) (Some row) e each = tt
+  region_value (Some (value.Count n)) (Some row) e each = tt
   region_value (Some (value.Last n)) (Some row) e each = tt
 
   pub map_said : (x : ImageRows) (w : Map) → ((q : Key) → option_map plain (w q) ≡ row_at x q)
@@ -87,6 +95,7 @@ module _ (P : List Place → Bool) (Q : Slice → Bool) where
   map_said x w is each (Path p) = no_region (w (Path p)) (row_at x (Path p)) (is (Path p)) (node_none (node_at x.paths p))
   map_said x w is each (Dir p) = no_region (w (Dir p)) (row_at x (Dir p)) (is (Dir p)) (names_none (names_under p x.paths) (node_at x.paths p))
   map_said x w is each (Inode i) = no_region (w (Inode i)) (row_at x (Inode i)) (is (Inode i)) (last_none (last_at x.files i))
+  map_said x w is each (Links i) = no_region (w (Links i)) (row_at x (Links i)) (is (Links i)) (count_none (times_named x.paths i))
   map_said x w is each (Region i r) = region_value (w (Region i r)) (region_at x.files i r) (is (Region i r)) (λ v row at same. each i r v row at same)
 
 module _ {S : Type 0} (kind : StoreKind S) (shelf : List S) (settings : Settings) where

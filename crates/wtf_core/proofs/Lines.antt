@@ -26,6 +26,7 @@ use Rattle.wtf_clients.specs.Seeing.{Seeing}
 use Rattle.wtf_clients.specs.Sounds.{AreSound}
 use Rattle.wtf_clients.specs.Standing.{StandsForTxn, StandsForSlot, TablesStand}
 use Rattle.wtf_clients.specs.Turns.{AreTrue, Refuses, LoneTurn, TxnTurn, ClientTurn}
+use Rattle.wtf_core.specs.Standing.{IsSmall}
 use Rattle.wtf_core.proofs.Plain.{refuses_stand, begins_stand, calls_stand, fails_stand, aborts_stand}
 use Rattle.wtf_core.proofs.Ending.{tries_stand, steps_stand, finals_stand}
 
@@ -66,7 +67,7 @@ not_logged m c t o a w is own =
     ap (λ r. called m c t o r) is ∙ ap (λ b. if b then with_transaction m c (logged t o (answer.Refused w)) else m) own
 
 module _ (z : Seeing) (old new : TablesView) (m : Machine) (c : ℕ) (sound : AreSound old)
-    (region : m.settings.region ≡ z.size) (count : m.settings.servers ≡ z.servers)
+    (region : m.settings.region ≡ z.size) (count : m.settings.servers ≡ z.servers) (small : IsSmall m)
     (st : TablesStand z.size z.told old m) (on : TellsOn z.told z.later) (telling : z.telling × AreTrue z.size z.told z.lists old) where
   -- the machine may answer so to a client with this transaction, or none, and the tables stand for what it is then
   abbrev Client : Option Transaction → Verb → Answer → Type 0
@@ -104,13 +105,13 @@ module _ (z : Seeing) (old new : TablesView) (m : Machine) (c : ℕ) (sound : Ar
   txn_stands x t verb.Begin a here there txn turn = (turn.answer, refused InTx a turn)
   txn_stands x t verb.Try a here there txn turn = stands_or (try_refusal x) (client_refusal (Some t) verb.Try) _ _ a (tried m c t a)
       (try_is z.size z.told old m x t txn)
-      (λ asked tries. tries_stand z.size z.told z.later old new m c x t a sound region st on here there asked tries)
+      (λ asked tries. tries_stand z.size z.told z.later old new m c x t a sound region small st on here there asked tries)
       (λ w is e. ap (λ r. tried m c t r) e) turn
   txn_stands x t verb.Step a here there txn turn =
       stands_or (step_refusal x) (client_refusal (Some t) verb.Step) _ _ a (stepped m c t a) (step_is z.size z.told old m x t txn)
       (λ asked steps. steps_stand z old new m c x t a sound region count st on here there asked telling steps)
       (λ w is e. ap (λ r. stepped m c t r) e) turn
-  txn_stands x t verb.Commit a here there txn turn = finals_stand z old new m c x t a sound region count st on here there
+  txn_stands x t verb.Commit a here there txn turn = finals_stand z old new m c x t a sound region count small st on here there
       telling turn
   txn_stands x t verb.Abort a here there txn turn = aborts_stand old new c x a sound here turn z.size z.told z.later m t st on
   txn_stands x t (verb.Call o) a here there txn turn =
@@ -133,11 +134,11 @@ module _ (z : Seeing) (old new : TablesView) (m : Machine) (c : ℕ) (sound : Ar
 -- and the machine may answer so, and the tables stand for what it then is
 pub client_stands : (z : Seeing) (old new : TablesView) (m : Machine) (c : ℕ) (v : Verb)
     (a : Answer)
-    → AreSound old → m.settings.region ≡ z.size → m.settings.servers ≡ z.servers → TablesStand z.size z.told old m
+    → AreSound old → m.settings.region ≡ z.size → m.settings.servers ≡ z.servers → IsSmall m → TablesStand z.size z.told old m
     → TellsOn z.told z.later → z.telling × AreTrue z.size
     z.told z.lists old
     → ClientTurn z old new c v a
     → MayClient m (get m.transactions c) v a × TablesStand z.size z.later new (after_client m c (get m.transactions c) v a)
-client_stands z old new m c v a sound region count st on telling turn = slot_stands z old new m c sound region count st on telling (of_client old.clients c)
-    (get m.transactions c) v a refl
-    refl (st.each c) turn
+client_stands z old new m c v a sound region count small st on telling turn =
+    let slot = st.each c in slot_stands z old new m c sound region count small st on telling (of_client old.clients c) (get m.transactions c) v a
+    refl refl slot turn

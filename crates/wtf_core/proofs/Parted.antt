@@ -171,6 +171,7 @@ module _ {S : Type 0} (kind : StoreKind S) (t : Span S) (old new : CoreView) (se
           by named (key.Path r) stands m live is = absurd (false≢true stands)
           by named (key.Dir r) stands m live is = absurd (false≢true stands)
           by named (key.Inode i) stands m live is = absurd (false≢true stands)
+          by named (key.Links i) stands m live is = absurd (false≢true stands)
           by named (key.Region i r) stands m live is = record {
             kept = record {
               number = m;

@@ -22,11 +22,10 @@ use Rattle.wtf_meta.specs.Contents.{Told}
 use Rattle.wtf_meta.specs.Maps.{Map, metadata_at}
 use Rattle.wtf_meta.specs.Trees.{Stands}
 use Rattle.wtf_meta.proofs.Telling.{TellsOn}
-use Rattle.wtf_image.specs.Images.{HasText}
 use Rattle.wtf_image.specs.Kept.{IsKept}
 use Rattle.wtf_image.specs.Lookups.{plain, row_at}
 use Rattle.wtf_image.specs.Rows.{ImageRows}
-use Rattle.wtf_image.specs.Texts.{image_text}
+use Rattle.wtf_image.proofs.Forms.{text_some}
 use Rattle.wtf_image.proofs.PlainLaws.{same_optional}
 use Rattle.wtf_image.proofs.SaveMap.{is_kept, says_all}
 use Rattle.wtf_image.proofs.StandsLaws.{stands_savable}
@@ -125,11 +124,6 @@ module _ {S : Type 0} (kind : StoreKind S) (span : Span S) (k : KeeperSpan) (law
   save_tree Up a turn did tells held = absurd turn
 
 -- ---- a line that leaves the keeper
--- an image is not the text of no byte
-text_some : (rows : ImageRows) (bytes : List ℕ) → HasText rows bytes → bytes ≡ [] → ⊥
-unfolding image_text
-text_some rows bytes text none = let never : image_text rows ≡ [] = sym text.text ∙ none in cc
-
 module _ {S : Type 0} (kind : StoreKind S) (span : Span S) (old new : CoreView) (m : Machine) (begun : AreSound old.tables)
     (st : TablesStand old.settings.region (byte_at kind span.before) old.tables m) (keeps : KeepsImages kind span old new)
     (goes : GoesLive old.tables new.tables) where
@@ -184,7 +178,7 @@ module _ {S : Type 0} (kind : StoreKind S) (span : Span S) (old new : CoreView) 
     where
       by : IsImageOfOne told bytes may → IsHeldBy old.tables old.settings bytes → IsImageOfOne later bytes more
       by (inl (empty, there)) at = inl (empty, listed root_alone there)
-      by (inr (t, there, image)) (inl (empty, none)) = absurd (text_some image.rows bytes image.text empty)
+      by (inr (t, there, image)) (inl (empty, none)) = absurd (text_some image.rows bytes image.text.text empty)
       by (inr (t, there, image)) (inr (n, here, at)) = inr (t, listed t there, image_kept n here bytes at t image)
 
 -- each line

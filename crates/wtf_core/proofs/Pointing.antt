@@ -30,7 +30,7 @@ use Rattle.wtf_meta.specs.Maps.{Map}
 use Rattle.wtf_meta.specs.Bytes.{PartBytes, EntryBytes, BaseBytes, ValueBytes, MapBytes, any_slice}
 use Rattle.wtf_image.specs.Rows.{BaseRow, EntryRow, RegionRow, FileRow, ImageRows, part_row, base_row, entry_rows}
 use Rattle.wtf_image.specs.Loading.{IsTaken}
-use Rattle.wtf_image.specs.Lookups.{Plain, NodeIs, NamesAre, LastIs, RegionIs, plain}
+use Rattle.wtf_image.specs.Lookups.{Plain, NodeIs, NamesAre, LastIs, RegionIs, CountIs, plain}
 use Rattle.wtf_image.specs.Rules.{lies_inside, are_inside, is_file_inside, is_region_inside, is_base_inside, is_part_inside}
 use Rattle.wtf_image.specs.Rules as rules
 use Rattle.wtf_image.specs.Saving.{last_now, region_now, with_one, regions_below, region_in, file_with, file_at, Says}
@@ -62,6 +62,7 @@ file_shown : (m : Shown) (i : InodeId) (f : FileRow) (o : Option Plain) → opti
 file_shown m i f None e = absurd (cc)
 file_shown m i f (Some (NodeIs n)) e = absurd (cc)
 file_shown m i f (Some (NamesAre names)) e = absurd (cc)
+file_shown m i f (Some (CountIs n)) e = absurd (cc)
 file_shown m i f (Some (LastIs n)) e = (n, cc)
 file_shown m i f (Some (RegionIs end base entries)) e = absurd (cc)
 
@@ -124,6 +125,7 @@ module _ {S : Type 0} (kind : StoreKind S) (shelf : List S) (settings : Settings
   region_out r None row h e = absurd (cc)
   region_out r (Some (value.Node n)) row h e = absurd (cc)
   region_out r (Some (value.Names ns)) row h e = absurd (cc)
+  region_out r (Some (value.Count n)) row h e = absurd (cc)
   region_out r (Some (value.Last n)) row h e = absurd (cc)
   region_out r (Some (value.Region v)) row h e =
       let base : base_row v.base ≡ row.base = cc in

@@ -26,6 +26,7 @@ node_shown b told w (Some (value.Node (FileNode i))) None h = absurd h
 node_shown b told w (Some (value.Node (FileNode i))) (Some Dir) h = absurd h
 node_shown b told w (Some (value.Node (FileNode i))) (Some (File paths bytes)) h = ap (λ (n : ℕ). Some (Some n)) h.body.bytes_are.len
 node_shown b told w (Some (value.Names ns)) o h = absurd h
+node_shown b told w (Some (value.Count n)) o h = absurd h
 node_shown b told w (Some (value.Last r)) o h = absurd h
 node_shown b told w (Some (value.Region r)) o h = absurd h
 

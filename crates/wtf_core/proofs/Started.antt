@@ -13,7 +13,7 @@ use Rattle.wtf_model.specs.Machines.{start}
 use Rattle.wtf_base.specs.declared.slice.Slice.{Slice}
 use Rattle.wtf_overlay.specs.Origin.{Place}
 use Rattle.wtf_values.specs.declared.key.Key.{Key}
-use Rattle.wtf_values.specs.declared.key.Key.TheVariants.{Path, Dir, Inode, Region}
+use Rattle.wtf_values.specs.declared.key.Key.TheVariants.{Path, Dir, Inode, Region, Links}
 use Rattle.wtf_values.specs.declared.value.Node.TheVariants.{Folder}
 use Rattle.wtf_values.specs.declared.value.Value.TheVariants as value
 use Rattle.wtf_values.specs.Names.{no_names}
@@ -122,6 +122,7 @@ module _ (P : List Place → Bool) (Q : Slice → Bool) (w : Map) (first : IsFir
       (same_or_other q root)
   value_first (Inode i) = subst (λ v. ValueBytes P Q v) (sym (first.inodes i)) tt
   value_first (Region i r) = subst (λ v. ValueBytes P Q v) (sym (first.regions i r)) tt
+  value_first (Links i) = subst (λ v. ValueBytes P Q v) (sym (first.counts i)) tt
 
 pub bytes_first : (P : List Place → Bool) (Q : Slice → Bool) (tables : TablesView) → AreSound tables → tables.kv.number ≡ 0 → tables.clients ≡ []
     → tables.beside ≡ unsaved → IsFirst

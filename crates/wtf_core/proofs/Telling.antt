@@ -327,6 +327,7 @@ value_plain : (P : List Place → Bool) (Q : Slice → Bool) (v : Option Value) 
 value_plain P Q None h none = tt
 value_plain P Q (Some (value.Node n)) h none = tt
 value_plain P Q (Some (value.Names ns)) h none = tt
+value_plain P Q (Some (value.Count n)) h none = tt
 value_plain P Q (Some (value.Last r)) h none = tt
 value_plain P Q (Some (value.Region v)) h none = record { base = base_plain P Q v.base none.base; entries = h.entries }
 

@@ -336,8 +336,8 @@ collect_told : {S : Type 0} {kind : StoreKind S} → KindLaws kind → (t : Span
     → IsByDevices kind t old new (λ before after. CollectTurn kind before after old.tables new.tables k a)
     → IsToldLine kind t old (under old new) (event.Collect k) a
 collect_told {S} {kind = kind} laws t old new k a sound enough lie quiet tells by =
-    let made : CollectTold kind old new k a by.before.settings (between by.before by.after) = λ settings enough lie quiet tells.
-    freed_told laws old new sound (event.Collect k) a (collect_unfailed kind by.before by.after old.tables new.tables k a by.did) by.before by.after
+    let made : CollectTold kind old new k a by.before.settings (between by.before by.after) = λ settings enough lie quiet tells. freed_told laws old new sound
+    (event.Collect k) a (collect_unfailed kind by.before by.after old.tables new.tables k a by.did) by.before by.after
     (collect_freed laws by.before by.after old.tables new.tables k a by.did) settings by.remembered_before by.remembered_after enough lie quiet tells in
     subst (λ (s : Span S). CollectTold kind old new k a by.before.settings s) by.lent.span_is made by.lent.settings_are enough lie quiet tells
 

@@ -6,7 +6,6 @@ use Rattle.std.specs.FinMap.{get}
 use Rattle.std.specs.List.{Contains}
 use Rattle.wtf_base.specs.declared.settings.Settings.{Settings}
 use Rattle.wtf_dev.specs.Store.{StoreKind, KindLaws}
-use Rattle.wtf_dev.specs.Sums.{TellsAll}
 use Rattle.wtf_kv.specs.Stores.{versions_of}
 use Rattle.wtf_replica.specs.Bytes.{byte_at}
 use Rattle.wtf_replica.specs.Downs.{is_down}
@@ -53,7 +52,7 @@ use Rattle.wtf_clients.proofs.Scanning.{pruned_keeps}
 use Rattle.wtf_clients.proofs.SinceLaws.{none_moved}
 use Rattle.wtf_clients.proofs.Staying.{stays_stand}
 use Rattle.wtf_core.specs.Answers.{IsEvent}
-use Rattle.wtf_core.specs.Standing.{StandsFor}
+use Rattle.wtf_core.specs.Standing.{StandsFor, IsSmall}
 use Rattle.wtf_core.specs.Telling.{TellsCore}
 use Rattle.wtf_core.specs.Turns.{ServerTurn, Switches, LineTurn}
 use Rattle.wtf_core.specs.Views.{CoreView, KnowsLists, lent_of}
@@ -164,9 +163,6 @@ up_line told later old new m k a sound stands on scans turn = switch_line told l
 -- the stores tell, and go on to
 module _ {S : Type 0} (kind : StoreKind S) (t : Span S) (old new : CoreView) (m : Machine) (a : Answer) (sound : AreSound old.tables)
     (stands : StandsFor (byte_at kind t.before) old m) (on : TellsOn (byte_at kind t.before) (byte_at kind t.after)) (tells : TellsCore kind t.before old) where
-  abbrev Telling : Type 0
-  Telling = TellsAll kind t.before
-
   abbrev told : Told
   told = byte_at kind t.before
 
@@ -222,9 +218,9 @@ module _ {S : Type 0} (kind : StoreKind S) (t : Span S) (old new : CoreView) (m 
   rest_replicas : Rest → new.replicas ≡ old.replicas
   rest_replicas h = ap (λ (c : CoreView). c.replicas) h
 
-  client_event : (c : ℕ) (v : Verb) → LineTurn kind t old new (event.Client c v) a → IsEvent later new m (event.Client c v) a
-  client_event c v h =
-      let both = client_stands (seeing kind t (lent_of old new)) old.tables new.tables m c v a sound region count stands.tables on
+  client_event : (c : ℕ) (v : Verb) → IsSmall m → LineTurn kind t old new (event.Client c v) a → IsEvent later new m (event.Client c v) a
+  client_event c v small h =
+      let both = client_stands (seeing kind t (lent_of old new)) old.tables new.tables m c v a sound region count small stands.tables on
       (tells.tables.all, lists) h.0 in
       record {
         may = both.0;
@@ -402,25 +398,25 @@ module _ {S : Type 0} {kind : StoreKind S} (laws : KindLaws kind) (old new : Cor
 module _ {S : Type 0} {kind : StoreKind S} (laws : KindLaws kind) (t : Span S) (old new : CoreView) (m : Machine) (a : Answer) (sound : AreSound old.tables)
     (stands : StandsFor (byte_at kind t.before) old m) (tells : TellsCore kind t.before old)
     (inside : TablesBytes (is_inside kind t.before old.settings) any_slice old.tables) where
-  pub line_stands : (e : Event) → (((k : ℕ) → e ≢ event.Collect k) → TellsOn (byte_at kind t.before) (byte_at kind t.after)) → LineTurn kind t old new e a
-      → IsEvent (byte_at kind t.after) new m e a
-  line_stands (event.Client c v) on h = client_event kind t old new m a sound stands (on (λ k is. absurd (cc))) tells c v h
-  line_stands (event.Plan j job p r) on h = plan_event kind t old new m a sound stands (on (λ k is. absurd (cc))) tells j job p r h
-  line_stands (event.Put j) on h = put_event kind t old new m a sound stands (on (λ k is. absurd (cc))) tells j h
-  line_stands (event.DropJob j) on h = drop_event kind t old new m a sound stands (on (λ k is. absurd (cc))) tells j h
-  line_stands (event.Down k) on h =
+  pub line_stands : (e : Event) → IsSmall m → (((k : ℕ) → e ≢ event.Collect k) → TellsOn (byte_at kind t.before) (byte_at kind t.after))
+      → LineTurn kind t old new e a → IsEvent (byte_at kind t.after) new m e a
+  line_stands (event.Client c v) small on h = client_event kind t old new m a sound stands (on (λ k is. absurd (cc))) tells c v small h
+  line_stands (event.Plan j job p r) small on h = plan_event kind t old new m a sound stands (on (λ k is. absurd (cc))) tells j job p r h
+  line_stands (event.Put j) small on h = put_event kind t old new m a sound stands (on (λ k is. absurd (cc))) tells j h
+  line_stands (event.DropJob j) small on h = drop_event kind t old new m a sound stands (on (λ k is. absurd (cc))) tells j h
+  line_stands (event.Down k) small on h =
       let still : TellsOn (byte_at kind t.before) (byte_at kind t.after) = on (λ j is. absurd (cc)) in
       let both = down_line (byte_at kind t.before) (byte_at kind t.after) old new m k a sound stands still
       (server_scans kind t old new m a sound stands still tells (event.Down k) tt tt h (server_plain old new k true (nat_lt k old.settings.servers) a h).1) h in
       record { may = both.0; stands = both.1 }
-  line_stands (event.Up k) on h =
+  line_stands (event.Up k) small on h =
       let still : TellsOn (byte_at kind t.before) (byte_at kind t.after) = on (λ j is. absurd (cc)) in
       let both = up_line (byte_at kind t.before) (byte_at kind t.after) old new m k a sound stands still
       (server_scans kind t old new m a sound stands still tells (event.Up k) tt tt h (server_plain old new k false (nat_lt k old.settings.servers) a h).1) h in
       record { may = both.0; stands = both.1 }
-  line_stands (event.Dump p) on h = dump_event kind t old new m a sound stands (on (λ k is. absurd (cc))) tells p h
-  line_stands event.Tree on h = tree_event kind t old new m a sound stands (on (λ k is. absurd (cc))) tells h
-  line_stands event.Save on h = save_event kind t old new m a sound stands (on (λ k is. absurd (cc))) tells h
-  line_stands event.Scan on h = scan_event kind t old new m a sound stands (on (λ k is. absurd (cc))) tells h
-  line_stands (event.Piece n) on h = piece_event kind t old new m a sound stands (on (λ k is. absurd (cc))) tells laws inside n h
-  line_stands (event.Collect k) on h = collect_event laws old new m sound t k a stands tells h
+  line_stands (event.Dump p) small on h = dump_event kind t old new m a sound stands (on (λ k is. absurd (cc))) tells p h
+  line_stands event.Tree small on h = tree_event kind t old new m a sound stands (on (λ k is. absurd (cc))) tells h
+  line_stands event.Save small on h = save_event kind t old new m a sound stands (on (λ k is. absurd (cc))) tells h
+  line_stands event.Scan small on h = scan_event kind t old new m a sound stands (on (λ k is. absurd (cc))) tells h
+  line_stands (event.Piece n) small on h = piece_event kind t old new m a sound stands (on (λ k is. absurd (cc))) tells laws inside n h
+  line_stands (event.Collect k) small on h = collect_event laws old new m sound t k a stands tells h

@@ -32,7 +32,7 @@ use Rattle.wtf_clients.specs.Views.{TablesView, watching}
 use Rattle.wtf_core.specs.Answers.{IsEvent}
 use Rattle.wtf_core.specs.Named.{IsInside, IsBased, IsBareCore, IsFull}
 use Rattle.wtf_core.specs.Pictured.{HoldsTree, HoldsTaken, HoldsWith}
-use Rattle.wtf_core.specs.Standing.{StandsFor}
+use Rattle.wtf_core.specs.Standing.{StandsFor, IsSmall}
 use Rattle.wtf_core.specs.Remembering.{KeepsPunched}
 use Rattle.wtf_core.specs.Quiet.{Saved, IsAtStage, HasCollected, ImageNames, IsIdle, WatchesNoOther}
 use Rattle.wtf_core.specs.Telling.{TellsCore, ServesTelling}
@@ -99,10 +99,10 @@ pub record IsCoreLawful {S : Type 0} (kind : StoreKind S) (old new : Scene S) (m
       → HoldsTaken new.keeper (size_in kind new.shelf) old.core.settings new.core.tables.kv.number new.core.tables.next_tx
   pub saved : old.keeper.tells ≡ true → CoreHasRoom old.core → CoreLeaves kind old new e a
 
--- the same of each machine that the core stands for, where the stores tell all that it names
+-- the same of each machine that the core stands for, whose tree is small, where the stores tell all that the core names
 abbrev pub Obeys : {S : Type 0} → StoreKind S → Scene S → Scene S → Event → Answer → Type 0
 Obeys kind old new e a =
-    TellsCore kind old.shelf old.core → (m : Machine) → StandsFor (byte_at kind old.shelf) old.core m → IsCoreLawful kind old new m e a
+    TellsCore kind old.shelf old.core → (m : Machine) → IsSmall m → StandsFor (byte_at kind old.shelf) old.core m → IsCoreLawful kind old new m e a
 
 -- the stores grew by what the line writes, where that goes
 pub record Stores {S : Type 0} (kind : StoreKind S) (old new : Scene S) (e : Event) (a : Answer) : Type 0 where

@@ -35,6 +35,7 @@ abbrev pub shown_value : ℕ → Map → Option Value → Option (Option ℕ)
 shown_value b w None = None
 shown_value b w (Some (value.Node n)) = Some (shown_node b w n)
 shown_value b w (Some (value.Names ns)) = None
+shown_value b w (Some (value.Count n)) = None
 shown_value b w (Some (value.Last r)) = None
 shown_value b w (Some (value.Region v)) = None
 

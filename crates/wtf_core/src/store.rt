@@ -244,14 +244,14 @@ impl Core {
         self.closed
     }
 
-    /// Answers one line. The answer is that of the machine, which the core goes on to stand for.
-    /// What a keeper tells that it holds goes on being the image at a number that is kept for it, of a
-    /// tree that the machine may have saved, and one that a run can begin with; a save alone hands it
-    /// something. Stores that tell all that the core names go on to do so, also where a list was
-    /// spilled; and where each byte had as many copies as there are replicas each has. A collection
-    /// alone punches, and only what nothing names: no map that can be read, no image that may be on
-    /// the keeper, no open transaction and no job. No line names a byte again that lay there while
-    /// nothing named it. After want of memory the metadata now are as they were, and the core is
+    /// Answers one line. The answer is that of the machine, which the core goes on to stand for, while
+    /// its tree is small. What a keeper tells that it holds goes on being the image at a number that is
+    /// kept for it, of a tree that the machine may have saved, and one that a run can begin with; a
+    /// save alone hands it something. Stores that tell all that the core names go on to do so, also
+    /// where a list was spilled; and where each byte had as many copies as there are replicas each has.
+    /// A collection alone punches, and only what nothing names: no map that can be read, no image that
+    /// may be on the keeper, no open transaction and no job. No line names a byte again that lay there
+    /// while nothing named it. After want of memory the metadata now are as they were, and the core is
     /// closed.
     pub fn take<S: SliceStore, K: Keeper>(
         &mut self,

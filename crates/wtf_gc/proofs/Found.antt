@@ -87,6 +87,7 @@ region_in : (o : Option Value) (p : Place) → value_has o p ≡ true → (r : R
 region_in None p h = cc
 region_in (Some (value.Node n)) p h = cc
 region_in (Some (value.Names ns)) p h = cc
+region_in (Some (value.Count n)) p h = cc
 region_in (Some (value.Last l)) p h = cc
 region_in (Some (value.Region r)) p h = (r, refl, h)
 
@@ -121,6 +122,7 @@ base_in : (part : ℕ) (o : Option Value) (b : Base) → Contains (value_bases p
 base_in part None b h = absurd (none_of b h)
 base_in part (Some (value.Node n)) b h = absurd (none_of b h)
 base_in part (Some (value.Names ns)) b h = absurd (none_of b h)
+base_in part (Some (value.Count n)) b h = absurd (none_of b h)
 base_in part (Some (value.Last l)) b h = absurd (none_of b h)
 base_in part (Some (value.Region r)) b h = spill_in part r r.base refl b h
 

@@ -52,6 +52,7 @@ pub parts_past : (i : InodeId) (parts : Parts) (q : Key) → key_stands_in parts
 parts_past i parts (key.Path p) stands = cc
 parts_past i parts (key.Dir p) stands = cc
 parts_past i parts (key.Inode j) stands = cc
+parts_past i parts (key.Links j) stands = cc
 parts_past i parts (key.Region j r) stands = refl
 
 pub gathers_start : (kv : Store Key Value) (parts : Parts) (after next : Option Key)

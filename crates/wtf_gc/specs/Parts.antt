@@ -34,6 +34,7 @@ key_stands_in parts (key.Path p) = false
 key_stands_in parts (key.Dir p) = false
 key_stands_in parts (key.Inode i) = false
 key_stands_in parts (key.Region i r) = stands_in parts i
+key_stands_in parts (key.Links i) = false
 
 -- a version of a key of these parts has this value of a region
 pub record IsIn (kv : Store Key Value) (parts : Parts) (v : RegionValue) : Type 0 where
@@ -81,6 +82,7 @@ key_part (key.Path p) = 0
 key_part (key.Dir p) = 0
 key_part (key.Inode i) = 0
 key_part (key.Region i r) = part_of i
+key_part (key.Links i) = 0
 
 -- the bases of the versions of a key, where it stands in these parts
 abbrev pub key_bases : Store Key Value → Parts → Key → List Base

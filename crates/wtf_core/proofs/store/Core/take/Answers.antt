@@ -266,7 +266,7 @@ goes_on_is g c =
     }
 
 lawful_is : (g : Over) (c : After-tidy g) → Obeys g.S.SliceStore.kind (first g c) (last g c) c.args.event c.in-Ok.answer
-lawful_is g c = λ telling m stands.
+lawful_is g c = λ telling m small stands.
     let kind = g.S.SliceStore.kind in
     let laws = g.met.S.SliceStore.laws in
     let told = byte_at kind c.args.shelf.now in
@@ -275,7 +275,7 @@ lawful_is g c = λ telling m stands.
     let t = through g c in
     let on = tells_on g c in
     let turn = turn_is g c in
-    let done = line_stands laws t old (answered g c) m c.in-Ok.answer (was_sound g c) stands telling c.requires.inside.tables c.args.event on turn in
+    let done = line_stands laws t old (answered g c) m c.in-Ok.answer (was_sound g c) stands telling c.requires.inside.tables c.args.event small on turn in
     let grows : (k f : ℕ) → size_in kind t.before k f ≤ size_in kind t.after k f = sizes_grow laws (punched_is g c).punches.follows in
     let now = now_bytes (is_inside kind c.args.shelf.now old.settings) any_slice old.tables c.requires.inside.tables in
     record {
