@@ -71,8 +71,8 @@ module _ {S : Type 0} (kind : StoreKind S) (old : Scene S) (shelf : List S) (kee
         let lie : LieIn mid.tables.beside.gc (size_in kind shelf) = on.inside.scans in
         record {
           goes_on = goes_behind kind shelf mid tables sound saves old keeper e a on;
-          lawful = λ tells m stands.
-              lawful_behind kind shelf mid tables sound saves old keeper e a line moved m on.same_number blind (obeys tells m stands);
+          lawful = λ tells m small stands.
+              lawful_behind kind shelf mid tables sound saves old keeper e a line moved m on.same_number blind (obeys tells m small stands);
           stored = record { adds = stored.adds; placed = stored.placed };
           caused = record { cause = caused.cause; failed = caused.failed };
           told = λ tells m stands. told_behind kind shelf mid tables sound saves old keeper e a line moved same lie (told tells m stands);

@@ -23,7 +23,8 @@ use Rattle.wtf_values.specs.declared.key.Key.TheVariants.{Inode, Path, Region}
 use Rattle.wtf_values.specs.declared.value.Value.{Value}
 use Rattle.wtf_imagefmt.specs.declared.records.Header.{Header}
 use Rattle.wtf_imagefmt.specs.declared.records.PathRecord.{PathRecord}
-use Rattle.wtf_imagefmt.specs.Lookups.{LastIs, NamesAre, NodeIs, Plain, RegionIs, path_entry, place_cmp, plain, node_at}
+use Rattle.wtf_imagefmt.specs.Lookups.{CountIs, LastIs, NamesAre, NodeIs, Plain, RegionIs, path_entry, place_cmp, plain, node_at}
+use Rattle.wtf_imagefmt.specs.declared.records.Version.TheVariants.{Two}
 use Rattle.wtf_imagefmt.specs.Rows.{FileRow, ImageRows, RegionRow, ValueRow}
 use Rattle.wtf_imagefmt.specs.Savable.{IsLastValue, IsSavable}
 use Rattle.wtf_imagefmt.specs.Saving.{file_at, file_entry, file_with, header_of, last_now, node_now, region_in, region_now, regions_below, with_one}
@@ -67,6 +68,7 @@ is_last : (o : Option Plain) → IsLastValue o → IsSome o → (n : ℕ) × (o 
 is_last None kind some = absurd (cc)
 is_last (Some (NodeIs n)) kind some = absurd kind
 is_last (Some (NamesAre names)) kind some = absurd kind
+is_last (Some (CountIs n)) kind some = absurd kind
 is_last (Some (LastIs n)) kind some = (n, refl)
 is_last (Some (RegionIs end base entries)) kind some = absurd kind
 
@@ -74,6 +76,7 @@ last_is : (o : Option Plain) (n : ℕ) → last_now o ≡ Some n → o ≡ Some 
 last_is None n e = absurd (cc)
 last_is (Some (NodeIs k)) n e = absurd (cc)
 last_is (Some (NamesAre names)) n e = absurd (cc)
+last_is (Some (CountIs c)) n e = absurd (cc)
 last_is (Some (LastIs k)) n e = ap (λ j. Some (LastIs j)) (some_is k n e)
 last_is (Some (RegionIs end base entries)) n e = absurd (cc)
 
@@ -94,6 +97,7 @@ row_is : (r : ℕ) (o : Option Plain) (row : RegionRow) → region_now r o ≡ S
 row_is r None row e = absurd (cc)
 row_is r (Some (NodeIs n)) row e = absurd (cc)
 row_is r (Some (NamesAre names)) row e = absurd (cc)
+row_is r (Some (CountIs n)) row e = absurd (cc)
 row_is r (Some (LastIs n)) row e = absurd (cc)
 row_is r (Some (RegionIs end base entries)) row e =
     subst (IsRowOf r (Some (RegionIs end base entries))) (some_is (record { number = r; end = end; base = base; entries = entries }) row e)
@@ -103,6 +107,7 @@ value_row : (r : ℕ) (o : Option Plain) (v : ValueRow) → value_now o ≡ Some
 value_row r None v e = absurd (cc)
 value_row r (Some (NodeIs n)) v e = absurd (cc)
 value_row r (Some (NamesAre names)) v e = absurd (cc)
+value_row r (Some (CountIs n)) v e = absurd (cc)
 value_row r (Some (LastIs n)) v e = absurd (cc)
 value_row r (Some (RegionIs end base entries)) v e =
     (record { number = r; end = end; base = base; entries = entries }, refl, some_is (record { end = end; base = base; entries = entries }) v e)
@@ -266,9 +271,9 @@ module _ (kv : Store Key Value) (since : ℕ) (s : Settings) (before next : ℕ)
         record { servers = was.servers; replicas = was.replicas; region = was.region; installs = omega (arith, number); next_tx = omega (arith, few) }
 
     abbrev made : ImageRows
-    made = record { header = header; paths = counted.0.rows; files = counted.1.rows }
+    made = record { version = Two; header = header; paths = counted.0.rows; files = counted.1.rows }
 
-    pub image_at_number : (z : ImageRows) × IsPictureOf (shown kv) s kv.number next z
+    pub image_at_number : (z : ImageRows) × IsPictureOf (shown kv) s kv.number next z × (z.version ≡ Two)
     image_at_number = (
       made,
       record {
@@ -278,4 +283,5 @@ module _ (kv : Store Key Value) (since : ℕ) (s : Settings) (before next : ℕ)
         says = record { paths = counted.0.are.each; files = counted.1.are.each };
         header = refl;
       },
+      refl,
     )

@@ -58,8 +58,8 @@ module _ {S : Type 0} (kind : StoreKind S) (shelf shelf' : List S) (core core' :
   }
 
   pub obeys_blind : (w.tells ≡ true → ⊥) → Obeys kind was is e a → Obeys kind was_blind is_blind e a
-  obeys_blind blind obeys tells m stands =
-      let law = obeys tells m stands in
+  obeys_blind blind obeys tells m small stands =
+      let law = obeys tells m small stands in
       record {
         rests = law.rests;
         left = λ j n had saves said tell. absurd (blind tell);

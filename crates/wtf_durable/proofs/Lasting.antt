@@ -17,7 +17,7 @@ use Rattle.wtf_meta.specs.Maps.{Map}
 use Rattle.wtf_clients.specs.Safe.{LieIn}
 use Rattle.wtf_clients.specs.Sounds.{AreSound}
 use Rattle.wtf_core.specs.Promises.{CoreHasRoom, Watches}
-use Rattle.wtf_core.specs.Standing.{StandsFor}
+use Rattle.wtf_core.specs.Standing.{StandsFor, IsSmall}
 use Rattle.wtf_core.specs.Telling.{TellsCore}
 use Rattle.wtf_core.specs.Views.{CoreView}
 use Rattle.wtf_durable.specs.Handled.{AreChanges, Handled, Noted}
@@ -72,7 +72,7 @@ module _ {S D : Type 0} (stores : DiskKind S) (kind : DiskKind D) (store_laws : 
   goes : Carries stores mid.shelf then new.durable.core
   goes = carries stores mid.shelf then new.durable.core handled.stays.sound handled.goes_on.inside.scans noted.notes.changes noted.records
 
-  module _ (m : Machine) (stands : StandsDurably stores kind old m) (room : CoreHasRoom new.durable.core) where
+  module _ (m : Machine) (small : IsSmall m) (stands : StandsDurably stores kind old m) (room : CoreHasRoom new.durable.core) where
     abbrev had : List (List ℕ)
     had = stands.journaled.bodies ++ handled.saved
 
@@ -83,9 +83,9 @@ module _ {S D : Type 0} (stores : DiskKind S) (kind : DiskKind D) (store_laws : 
         → Have (had ++ changes_body changes)
     mid_have None are (watched, same) =
         subst Have (sym (append-nil had))
-        (have_at stores kind store_laws disk_laws old mid new e a sound handled shelf noted.notes m stands room then.tables.kv.number
-        (watched_is stores kind store_laws disk_laws old mid new e a sound handled shelf noted.notes m stands room then.tables.kv.number watched))
-    mid_have (Some changes) are is = new_have stores kind store_laws disk_laws old mid new e a sound handled shelf noted.notes m stands room changes are
+        (have_at stores kind store_laws disk_laws old mid new e a sound handled shelf noted.notes m small stands room then.tables.kv.number
+        (watched_is stores kind store_laws disk_laws old mid new e a sound handled shelf noted.notes m small stands room then.tables.kv.number watched))
+    mid_have (Some changes) are is = new_have stores kind store_laws disk_laws old mid new e a sound handled shelf noted.notes m small stands room changes are
 
     behind_have : HavePicture (shown new.durable.core.tables.kv) new.durable.core.settings new.durable.core.tables.kv.number
         (had ++ changes_body noted.notes.changes)
@@ -97,8 +97,8 @@ module _ {S D : Type 0} (stores : DiskKind S) (kind : DiskKind D) (store_laws : 
     journaled : IsJournaled kind new.disk new.durable
     journaled = record {
       bodies = had ++ changes_body noted.notes.changes;
-      rests = noted.added (telling stores kind store_laws disk_laws old mid new e a sound handled shelf noted.notes m stands room) had
-          (rests stores kind store_laws disk_laws old mid new e a sound handled shelf noted.notes m stands room);
+      rests = noted.added (telling stores kind store_laws disk_laws old mid new e a sound handled shelf noted.notes m small stands room) had
+          (rests stores kind store_laws disk_laws old mid new e a sound handled shelf noted.notes m small stands room);
       rows = behind_have.rows;
       gives = behind_have.gives;
       next = behind_have.next;
@@ -110,13 +110,13 @@ module _ {S D : Type 0} (stores : DiskKind S) (kind : DiskKind D) (store_laws : 
       shelf = subst (λ s. TellsCore (synced_kind stores) s new.durable.core) (sym shelf) (goes.tells (handled.told stands.shelf m stands.machine).next);
       machine = subst (λ s. StandsFor (byte_at (synced_kind stores) s) new.durable.core (after m e a)) (sym shelf)
           (goes.stands (byte_at (synced_kind stores) mid.shelf) (after m e a)
-          (lawful stores kind store_laws disk_laws old mid new e a sound handled shelf noted.notes m stands room).event.stands);
-      disk = noted.notes.goes_on.tells ∙ telling stores kind store_laws disk_laws old mid new e a sound handled shelf noted.notes m stands room;
+          (lawful stores kind store_laws disk_laws old mid new e a sound handled shelf noted.notes m small stands room).event.stands);
+      disk = noted.notes.goes_on.tells ∙ telling stores kind store_laws disk_laws old mid new e a sound handled shelf noted.notes m small stands room;
       journaled = journaled;
     }
 
   pub handled_lasts : Lasts stores kind old new e a
   handled_lasts = record {
-    stands = λ m stands room. stands_then m stands room;
-    leaves = λ m stands room left stop. durable_leaves stores kind store_laws disk_laws new (after m e a) (stands_then m stands room) left stop;
+    stands = λ m small stands room. stands_then m small stands room;
+    leaves = λ m small stands room left stop. durable_leaves stores kind store_laws disk_laws new (after m e a) (stands_then m small stands room) left stop;
   }

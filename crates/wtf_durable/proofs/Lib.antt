@@ -15,5 +15,6 @@ pub mod Pictures
 pub mod Cores
 pub mod Trees
 pub mod Finding
+pub mod Smallness
 pub mod Stopping
 pub mod Lasting

@@ -7,7 +7,7 @@ use Rattle.wtf_journal.specs.Views.{JournalView}
 use Rattle.wtf_model.specs.declared.event.Event.TheVariants as event
 use Rattle.wtf_core.specs.Promises.{Closes, IsRecordOf}
 use Rattle.wtf_core.specs.Views.{CoreView}
-use Rattle.wtf_durable.specs.Handled.{HandsImages, Noted, Notes}
+use Rattle.wtf_durable.specs.Handled.{Noted, Notes}
 use Rattle.wtf_durable.specs.Views.{DurableView, ReachesGate}
 
 module _ {D : Type 0} (kind : DiskKind D) where

@@ -3,6 +3,7 @@ use Rattle.std.proofs.Common.{◌≡◌, ◌≤◌, ◌^◌, ◌++◌, ◌∙◌
 use Rattle.std.specs.Prelude.{IsTrue}
 use Rattle.wtf_base.specs.declared.settings.Settings.{Settings}
 use Rattle.wtf_dev.specs.Disk.{DiskContent, DiskKind, DiskLaws, IsFileImage}
+use Rattle.wtf_imagefmt.specs.declared.records.Version.TheVariants.{Two}
 use Rattle.wtf_imagefmt.specs.Rows.{ImageRows}
 use Rattle.wtf_imagefmt.specs.Savable.{IsSavable}
 use Rattle.wtf_imagefmt.specs.Saving.{IsSaveOf}
@@ -127,12 +128,12 @@ module _ (kv : Store Key Value) (s : Settings) (since next : ℕ) (bodies : List
     (pinned : IsTrue (is_pinned kv since)) (upto : since ≤ kv.number) (changes : List ℕ) (are : IsChangesOf kv since next changes)
     (counted : CanBeCounted (shown kv)) (savable : IsSavable s.region next (shown kv)) (few : kv.number ≤ 2 ^ 62) (last : next ≤ 2 ^ 62) where
   -- ---- an image at the number is there, where its paths and files can be counted
-  at_number : (z : ImageRows) × IsPictureOf (shown kv) s kv.number next z
+  at_number : (z : ImageRows) × IsPictureOf (shown kv) s kv.number next z × (z.version ≡ Two)
   at_number = image_at_number kv since s old.next next old.rows are.rows pinned upto old.picture are.text.shape are.are counted savable few last
 
   made : applied old.rows are.rows ≡ Some at_number.0
   made = image_again kv since s next old.rows at_number.0
-      (record { pinned = pinned; upto = upto; before = old.next; old = old.picture; new = at_number.1 }) are.rows are.text.shape are.are
+      (record { pinned = pinned; upto = upto; before = old.next; old = old.picture; new = at_number.1; second = at_number.2 }) are.rows are.text.shape are.are
 
   pub changes_have : HavePicture (shown kv) s kv.number (with_body bodies (1 ∷ changes))
   changes_have = record {

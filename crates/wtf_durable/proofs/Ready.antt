@@ -1,8 +1,9 @@
 -- A durable store that was opened is one that a run can begin with.
-use Rattle.std.proofs.Common.{◌≡◌, ◌⊎◌, ◌≤◌, ◌<◌, ◌||◌, ℕ, Bool, false, List, [], length, Some, refl, sym, ap, ◌∙◌, subst, inl, inr}
+use Rattle.std.proofs.Common.{◌≡◌, ◌⊎◌, ◌≤◌, ◌<◌, ◌^◌, ◌||◌, ℕ, Bool, false, List, [], length, Some, refl, sym, ap, ◌∙◌, subst, inl, inr}
 use Rattle.std.proofs.Common.{⊎_elim, arith}
 use Rattle.std.proofs.Math.Path.{fun_ext}
 use Rattle.std.specs.List.{Contains}
+use Rattle.std.specs.FinMap.{len}
 use Rattle.std.specs.Option.{option_map}
 use Rattle.std.specs.Prelude.{⊤}
 use Rattle.wtf_base.specs.declared.settings.Settings.{Settings}
@@ -29,6 +30,7 @@ use Rattle.wtf_gc.specs.Frees.{lie_in}
 use Rattle.wtf_model.specs.declared.answer.Answer.TheVariants as answer
 use Rattle.wtf_model.specs.declared.event.Event.TheVariants as event
 use Rattle.wtf_model.specs.Tree.{Tree, root_alone}
+use Rattle.wtf_model.proofs.Sizes.{len-root}
 use Rattle.wtf_clients.specs.Keeping.{HoldsKept, IsHeldBy}
 use Rattle.wtf_clients.specs.Saves.{Saves}
 use Rattle.wtf_clients.specs.Sounds.{AreSound}
@@ -36,7 +38,7 @@ use Rattle.wtf_clients.specs.Views.{BesideView, TablesView, watching}
 use Rattle.wtf_clients.proofs.Soundness.{watched_sound}
 use Rattle.wtf_core.specs.Named.{IsBased, IsFull, IsInside}
 use Rattle.wtf_core.specs.Promises.{Watches, span_of}
-use Rattle.wtf_core.specs.Standing.{StandsFor}
+use Rattle.wtf_core.specs.Standing.{StandsFor, IsSmall}
 use Rattle.wtf_core.specs.Telling.{IsToldLine, IsWide, IsWithin, TellsCore, stores_of}
 use Rattle.wtf_core.specs.Views.{CoreView}
 use Rattle.wtf_serve.specs.Beginnings.{CanBegin}
@@ -141,6 +143,9 @@ module _ {S D : Type 0} (stores : DiskKind S) (kind : DiskKind D) (laws : KindLa
   started : (t : Tree) → t ≡ root_alone → StandsFor (byte_at k shelf) old.core (first opening t)
   started t is = r.stands t (from_root (byte_at k shelf) t is)
 
+  root_small : (t : Tree) → t ≡ root_alone → IsSmall (first opening t)
+  root_small t is = subst (λ (u : Tree). len u < 2 ^ 61) (sym is) (omega (arith, len-root))
+
   telling : TellsAll k shelf' → (t : Tree) → t ≡ root_alone → TellsCore k shelf old.core
   telling tells t is = (r.told (tells_back tells)).tells t (from_root (byte_at k shelf) t is)
 
@@ -187,7 +192,7 @@ module _ {S D : Type 0} (stores : DiskKind S) (kind : DiskKind D) (laws : KindLa
         };
     stands = λ t from tells.
         let is = root_is (byte_at k shelf') t from in
-        (saved.lawful (telling tells t is) (first opening t) (started t is)).event.stands;
+        (saved.lawful (telling tells t is) (first opening t) (root_small t is) (started t is)).event.stands;
     enough = let some = r.enough in let same = unpunched.same_length in omega (arith, some, same);
     taken = subst (λ (b : List ℕ). IsTakenOver (size_in k shelf') b) (sym empty) tt;
   }

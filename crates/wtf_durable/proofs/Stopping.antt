@@ -33,6 +33,7 @@ use Rattle.wtf_clients.proofs.Lives.{number_live}
 use Rattle.wtf_clients.proofs.OffStanding.{stands_where}
 use Rattle.wtf_clients.proofs.Punched.{tells_punched}
 use Rattle.wtf_core.specs.Promises.{CoreHasRoom, IsCoreLawful, span_of}
+use Rattle.wtf_core.specs.Standing.{IsSmall}
 use Rattle.wtf_core.specs.Views.{CoreView}
 use Rattle.wtf_core.proofs.Watching.{watched_pinned}
 use Rattle.wtf_durable.specs.Handled.{AreChanges, Handled, HandlesNot, Notes}
@@ -131,8 +132,12 @@ module _ {S D : Type 0} (stores : DiskKind S) (kind : DiskKind D) (store_laws : 
   pub unhandled_survives : {E : Type 0} (old new : DurableScene S D) (e : Event) (why : E) → IsSoundDurable (synced_kind stores) old.shelf old.durable
       → HandlesNot stores kind old new → Survives stores kind old new e (Err why)
   unhandled_survives old new e why sound lost = record {
-    during = λ m stands room left stop. (m.now, inl refl, lost_leaves old new sound lost m stands left stop);
-    behind = λ m stands room left stop. (m.now, inl refl, lost_leaves old new sound lost m stands left (inr (lost_late old new sound lost m stands left stop)));
+    during = λ m small stands room left stop. (m.now, inl refl, lost_leaves old new sound lost m stands left stop);
+    behind = λ m small stands room left stop. (
+      m.now,
+      inl refl,
+      lost_leaves old new sound lost m stands left (inr (lost_late old new sound lost m stands left stop)),
+    );
   }
 
   -- ---- one that the core answered, and that ends with what is added to the journal
@@ -145,7 +150,7 @@ module _ {S D : Type 0} (stores : DiskKind S) (kind : DiskKind D) (store_laws : 
     abbrev then : CoreView
     then = mid.durable.core
 
-    module _ (m : Machine) (stands : StandsDurably stores kind old m) (room : CoreHasRoom new.durable.core) where
+    module _ (m : Machine) (small : IsSmall m) (stands : StandsDurably stores kind old m) (room : CoreHasRoom new.durable.core) where
       spares : Spares old new.shelf
       spares = record {
         ranges = handled.punched.punches.ranges;
@@ -173,7 +178,7 @@ module _ {S D : Type 0} (stores : DiskKind S) (kind : DiskKind D) (store_laws : 
       old_have = saved_have before stands.journaled.bodies (journaled_has kind old.disk old.durable stands.journaled) savable e a handled.saved handled.saved_is
 
       pub lawful : IsCoreLawful (synced_kind stores) (core_scene kind old) (core_scene kind mid) m e a
-      lawful = handled.lawful stands.shelf m stands.machine
+      lawful = handled.lawful stands.shelf m small stands.machine
 
       -- the map there is what it was
       pub have_at : (n : ℕ) → n ≡ before.tables.kv.number → HavePicture (shown_at then.tables.kv n) then.settings n had
@@ -251,13 +256,15 @@ module _ {S D : Type 0} (stores : DiskKind S) (kind : DiskKind D) (store_laws : 
     -- done
     pub handled_survives : {E : Type 0} → Survives {E = E} stores kind old new e (Ok a)
     handled_survives = record {
-      during = λ m stands room left stop. stop_found m stands room left stop;
-      behind = λ m stands room left stop. behind_found m stands room left stop;
+      during = λ m small stands room left stop. stop_found m small stands room left stop;
+      behind = λ m small stands room left stop. behind_found m small stands room left stop;
     }
 
     -- or with a fault
     pub cut_survives : {E : Type 0} (why : E) → Survives stores kind old new e (Err why)
     cut_survives why = record {
-      during = λ m stands room left stop. let is = stop_found m stands room left stop in (is.0, result_cut m stands room why is.0 is.1, is.2);
-      behind = λ m stands room left stop. let is = behind_found m stands room left stop in (is.0, result_cut m stands room why is.0 is.1, is.2);
+      during = λ m small stands room left stop.
+          let is = stop_found m small stands room left stop in (is.0, result_cut m small stands room why is.0 is.1, is.2);
+      behind = λ m small stands room left stop.
+          let is = behind_found m small stands room left stop in (is.0, result_cut m small stands room why is.0 is.1, is.2);
     }

@@ -36,11 +36,12 @@ stands_later_on b told tx later w t before st = record {
   tree_is = st.tree_is;
   nodes = st.nodes;
   names = st.names;
-  apart = st.apart;
   led = st.led;
   regions = st.regions;
+  counted = st.counted;
   bytes = st.bytes;
   fresh = λ i of past. no_inode (w (Inode i)) (λ some. let lt = before i some in omega (arith, lt, of));
+  few = st.few;
 }
 
 -- an image has bytes

@@ -12,6 +12,7 @@ use Rattle.wtf_model.specs.Machines.{Machine}
 use Rattle.wtf_model.specs.Steps.{May, after}
 use Rattle.wtf_model.specs.Tree.{Tree}
 use Rattle.wtf_core.specs.Promises.{CoreGoesOn, Obeys, Stores, IsCaused, GoesOnTold, HasPunched, CoreHasRoom, IsRecordOf, span_of}
+use Rattle.wtf_core.specs.Standing.{IsSmall}
 use Rattle.wtf_core.specs.Turns.{IsLine}
 use Rattle.wtf_core.specs.Views.{CoreView}
 use Rattle.wtf_durable.specs.Journaled.{StandsDurably}
@@ -73,17 +74,17 @@ abbrev pub MayHave : {E : Type 0} → Machine → Event → Result Answer E → 
 MayHave m e (Ok a) t = t ≡ (after m e a).now
 MayHave m e (Err why) t = (a : Answer) × May m e a × (t ≡ (after m e a).now)
 
--- A stop at any moment of the event leaves the tree before it, or the one behind it.
+-- A stop at any moment of an event on a small tree leaves that tree, or the one behind it.
 pub record Survives {S D E : Type 0} (stores : DiskKind S) (kind : DiskKind D) (old new : DurableScene S D) (e : Event) (r : Result Answer E)
     : Type 0 where
-  pub during : (m : Machine) → StandsDurably stores kind old m → CoreHasRoom new.durable.core
+  pub during : (m : Machine) → IsSmall m → StandsDurably stores kind old m → CoreHasRoom new.durable.core
       → (left : Leftover) → StopIn stores kind old new left → (t : Tree) × ((t ≡ m.now) ⊎ MayHave m e r t) × LeavesTree left t
   -- and so does one behind it, before any other call
-  pub behind : (m : Machine) → StandsDurably stores kind old m → CoreHasRoom new.durable.core
+  pub behind : (m : Machine) → IsSmall m → StandsDurably stores kind old m → CoreHasRoom new.durable.core
       → (left : Leftover) → StopNow stores kind new left → (t : Tree) × ((t ≡ m.now) ⊎ MayHave m e r t) × LeavesTree left t
 
--- Behind an event that was answered the store stands for the machine with that answer, and a stop leaves its tree.
+-- Behind an event on a small tree that was answered the store stands for the machine with that answer, and a stop leaves its tree.
 pub record Lasts {S D : Type 0} (stores : DiskKind S) (kind : DiskKind D) (old new : DurableScene S D) (e : Event) (a : Answer) : Type 0 where
-  pub stands : (m : Machine) → StandsDurably stores kind old m → CoreHasRoom new.durable.core → StandsDurably stores kind new (after m e a)
-  pub leaves : (m : Machine) → StandsDurably stores kind old m → CoreHasRoom new.durable.core
+  pub stands : (m : Machine) → IsSmall m → StandsDurably stores kind old m → CoreHasRoom new.durable.core → StandsDurably stores kind new (after m e a)
+  pub leaves : (m : Machine) → IsSmall m → StandsDurably stores kind old m → CoreHasRoom new.durable.core
       → (left : Leftover) → StopNow stores kind new left → LeavesTree left (after m e a).now

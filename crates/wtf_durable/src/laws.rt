@@ -1,8 +1,15 @@
-//! What the definitions say of a stop, as the contract of a function that does nothing.
+//! What the definitions say of a stop, and of the tree of a store, as contracts of functions that do nothing.
 
-ghost use Rattle.std.specs.Prelude.{ℕ, List};
+ghost use Rattle.std.specs.Prelude.{◌≤◌, ◌^◌, ℕ, List, Ok, length, map, All};
+ghost use Rattle.wtf_base.specs.declared.settings.Settings.{Settings};
 ghost use Rattle.wtf_meta.specs.Contents.{Told};
+ghost use Rattle.wtf_model.specs.declared.answer.Answer.{Answer};
+ghost use Rattle.wtf_model.specs.declared.event.Event.{Event};
+ghost use Rattle.wtf_model.specs.Form.{IsFormEvent};
+ghost use Rattle.wtf_model.specs.Lines.{machine_after};
+ghost use Rattle.wtf_model.specs.Machines.{start};
 ghost use Rattle.wtf_model.specs.Tree.{Tree};
+ghost use Rattle.wtf_core.specs.Standing.{IsSmall};
 ghost use Rattle.wtf_serve.specs.Openings.{StartsFrom};
 ghost use Rattle.wtf_durable.specs.Opened.{GivesImage};
 ghost use Rattle.wtf_durable.specs.Stops.{FindsTree};
@@ -12,4 +19,12 @@ ghost use Rattle.wtf_durable.specs.Stops.{FindsTree};
 pub fn what_is_found_is_opened()
     ensures { (told : Told) (journal image : List ℕ) (t : Tree) → FindsTree told journal t →
         GivesImage journal image → StartsFrom told image t }
+{}
+
+/// The tree that an image opens is small, and stays so for 2^30 events.
+pub fn many_events_leave_a_small_tree()
+    ensures { (told : Told) (image : List ℕ) (t : Tree) (settings : Settings) (number : ℕ)
+        (events : List Event) (answers : List Answer) → StartsFrom told image t →
+        All IsFormEvent events → length events ≤ 2 ^ 30 →
+        IsSmall (machine_after (start settings number t) (map (λ e. Ok e) events) answers) }
 {}

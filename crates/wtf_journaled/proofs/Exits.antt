@@ -1,6 +1,6 @@
 -- A journaled run on its way, and how it ends.
-use Rattle.std.proofs.Common.{◌≡◌, ◌⊎◌, ◌<◌, ◌≤◌, ◌^◌, ◌++◌, ℕ, Bool, true, false, List, [], ◌∷◌, None, Some, Ok, Err, refl, sym, ◌∙◌, ap, subst, inl, inr, arith}
-use Rattle.std.proofs.Common.{append_assoc, ⊎_elim}
+use Rattle.std.proofs.Common.{◌≡◌, ◌⊎◌, ◌<◌, ◌≤◌, ◌^◌, ◌++◌, ℕ, Bool, true, false, List, [], ◌∷◌, None, Some, Ok, Err, refl, sym, ◌∙◌, ap, subst}
+use Rattle.std.proofs.Common.{inl, inr, append_assoc, ⊎_elim, arith}
 use Rattle.std.specs.Prelude.{⊤, ◌||◌}
 use Rattle.wtf_base.specs.declared.settings.Settings.{Settings}
 use Rattle.wtf_dev.specs.Counts.{Rose}
@@ -35,12 +35,13 @@ use Rattle.wtf_serve.specs.Turns.{WroteFront}
 use Rattle.wtf_serve.proofs.Underway.{begins_of, line_of_first, room_of}
 use Rattle.wtf_serve.proofs.Unstarted.{unstarted, unstarted_log, unwritten, unwritten_log}
 use Rattle.wtf_serve.proofs.Finishing.{blind_log, finish_blind, finish_held, finish_stop, held_log, stop_log}
-use Rattle.wtf_serve.proofs.Going.{Going, going_none, going_on}
+use Rattle.wtf_serve.proofs.Going.{Going, going_none, going_on, short_now, small_now}
 use Rattle.wtf_serve.proofs.Keeping.{text_some}
 use Rattle.wtf_serve.proofs.Leaving.{KeepsWithin}
 use Rattle.wtf_serve.proofs.RanLaws.{longer, so_far_more}
 use Rattle.wtf_serve.proofs.Telling.{told_front, told_more}
 use Rattle.wtf_core.specs.Promises.{CoreHasRoom}
+use Rattle.wtf_core.specs.Standing.{IsSmall}
 use Rattle.wtf_core.proofs.FirstStores.{kept_within}
 use Rattle.wtf_durable.specs.Journaled.{StandsDurably}
 use Rattle.wtf_durable.specs.Stops.{LeavesTree, Leftover}
@@ -148,6 +149,9 @@ module _ {S D : Type 0} (stores : DiskKind S) (kind : DiskKind D) (store_laws : 
         let most = j.going.next_tx in omega (arith, most, few),
       )
 
+      small : IsSmall m
+      small = small_now (journaled_engine stores kind) laws j.opening start now next bad j.going (byte_at (synced_kind stores) j.shelf) t from
+
       stands_now : StandsDurably stores kind (scene_of now) m
       stands_now = (j.going.so_far.stands tells t from).journal ((j.going.so_far.told tells).tells t from).tables.all told_now room
 
@@ -168,7 +172,7 @@ module _ {S D : Type 0} (stores : DiskKind S) (kind : DiskKind D) (store_laws : 
       leaves_cut pass left behind =
           let cut = pass.came.cut in
           let then = so_far_more (journaled_engine stores kind) laws j.opening start.stock j.going.log (step_of now next) j.going.so_far pass.came.line
-          cut.answer cut.is pass.keeper.faults in
+          cut.answer cut.is pass.keeper.faults (short_now (journaled_engine stores kind) laws j.opening start now next bad j.going) in
           let top : CoreHasRoom state'.durable.core = (
             let most = j.going.number in let more = cut.is.goes_on.number in omega (arith, most, low, more),
             let most = j.going.next_tx in let more = cut.is.goes_on.next_tx in omega (arith, most, few, more),
@@ -181,7 +185,7 @@ module _ {S D : Type 0} (stores : DiskKind S) (kind : DiskKind D) (store_laws : 
       leaves_broken : (b : BreaksOff stores kind now next) (left : Leftover) → StopBehind stores kind (new_with sink') left
           → (final : Tree) × ((final ≡ m.now) ⊎ IsOfNextLine m old.source.rest j.going.log.lines final) × LeavesTree left final
       leaves_broken b left behind =
-          let (final, which, leaves) = b.survives m stands_now grow left (record { shelf = behind.shelf; disk = behind.disk }) in
+          let (final, which, leaves) = b.survives m small stands_now grow left (record { shelf = behind.shelf; disk = behind.disk }) in
           (final, ⊎_elim (λ same. inl same) (λ may. inr (record { line = b.line; next = next_line b; may = may })) which, leaves)
 
     -- ---- the ends
@@ -233,7 +237,8 @@ module _ {S D : Type 0} (stores : DiskKind S) (kind : DiskKind D) (store_laws : 
         → IsJournaledRun stores kind asked (halt_status why) old (new_with sink')
     halted (halt.Stopped stop.Unread) pass breaks cause =
         opened_by 3 3 refl (new_with sink') j.going.log (stopped_by stop.Unread pass j.going.log
-        (stop_log (journaled_engine stores kind) laws keeps (λ images. ⊤) j.opening start now next bad j.going stop.Unread pass)) (λ e. absurd (omega (arith, e)))
+        (stop_log (journaled_engine stores kind) laws keeps (λ images. ⊤) j.opening start now next bad j.going stop.Unread pass))
+        (λ e. absurd (omega (arith, e)))
         (lasts_quiet pass.came.1 3 sink')
     halted (halt.Stopped stop.Unwritten) pass breaks cause =
         opened_by 4 4 refl (new_with sink') (longer j.going.log pass.came.line pass.came.cut.answer)
@@ -244,11 +249,13 @@ module _ {S D : Type 0} (stores : DiskKind S) (kind : DiskKind D) (store_laws : 
         ((last j.opening t (longer j.going.log pass.came.line pass.came.cut.answer)).now, inl refl, leaves_cut tells told low few t from pass left behind))
     halted (halt.Stopped stop.TooMuch) pass breaks cause =
         opened_by 9 9 refl (new_with sink') j.going.log (stopped_by stop.TooMuch pass j.going.log
-        (stop_log (journaled_engine stores kind) laws keeps (λ images. ⊤) j.opening start now next bad j.going stop.TooMuch pass)) (λ e. absurd (omega (arith, e)))
+        (stop_log (journaled_engine stores kind) laws keeps (λ images. ⊤) j.opening start now next bad j.going stop.TooMuch pass))
+        (λ e. absurd (omega (arith, e)))
         (lasts_quiet pass.came.1 9 sink')
     halted (halt.Stopped stop.Memory) pass breaks cause =
         opened_by 7 7 refl (new_with sink') j.going.log (stopped_by stop.Memory pass j.going.log
-        (stop_log (journaled_engine stores kind) laws keeps (λ images. ⊤) j.opening start now next bad j.going stop.Memory pass)) (λ e. absurd (omega (arith, e)))
+        (stop_log (journaled_engine stores kind) laws keeps (λ images. ⊤) j.opening start now next bad j.going stop.Memory pass))
+        (λ e. absurd (omega (arith, e)))
         (lasts_short (breaks (inl refl)) 7 (inr refl))
     halted halt.Journal pass breaks cause =
         opened_by 5 7 refl (new_with sink') j.going.log (stopped_by stop.Memory pass j.going.log

@@ -74,9 +74,9 @@ module _ {S D : Type 0} (stores : DiskKind S) (kind : DiskKind D) (old new : Dur
     }
 
     event_obeys : Lasts stores kind old new e a → Obeys (journaled_engine stores kind) t (Ok e) a
-    event_obeys lasts = λ tells m stands.
+    event_obeys lasts = λ tells m small stands.
         let core : StandsFor (byte_at (synced_kind stores) old.shelf) old.durable.core m = stands.core tells.tables.all in
-        let law = does.lawful tells m core in
+        let law = does.lawful tells m small core in
         record {
           stands = record {
             core = λ all. law.event.stands;
@@ -85,7 +85,7 @@ module _ {S D : Type 0} (stores : DiskKind S) (kind : DiskKind D) (old new : Dur
                   let up = does.goes_on.number in let top = room.0 in omega (arith, up, top),
                   let up = does.goes_on.next_tx in let top = room.1 in omega (arith, up, top),
                 ) in
-                lasts.stands m (stands.journal tells.tables.all (sym goes.tells ∙ told) was) room;
+                lasts.stands m small (stands.journal tells.tables.all (sym goes.tells ∙ told) was) room;
           };
           may = law.event.may;
           number = sym law.event.stands.tables.number;
@@ -149,12 +149,12 @@ pub event_survives : {S D E : Type 0} (stores : DiskKind S) (kind : DiskKind D) 
     → Survives {E = E} stores kind old new e (Err why)
     → (new.durable.core.tables.kv.number ≤ old.durable.core.tables.kv.number + 1) × (new.durable.core.tables.next_tx ≤ old.durable.core.tables.next_tx + 1)
     → SurvivesLine stores kind old new (Ok e)
-event_survives stores kind old new e why survives numbers = λ m stands grow left stop.
+event_survives stores kind old new e why survives numbers = λ m small stands grow left stop.
     let room : CoreHasRoom new.durable.core = (
       let low = grow.0 in let more = numbers.0 in omega (arith, low, more),
       let low = grow.1 in let more = numbers.1 in omega (arith, low, more),
     ) in
-    survives.behind m stands room left stop
+    survives.behind m small stands room left stop
 
 -- ---- a line that was answered
 pub answered_survives : {S D : Type 0} (stores : DiskKind S) (kind : DiskKind D) → DiskLaws stores → DiskLaws kind → (old new : DurableScene S D) (line : Line)
@@ -162,10 +162,10 @@ pub answered_survives : {S D : Type 0} (stores : DiskKind S) (kind : DiskKind D)
     → IsAnswer (journaled_engine stores kind) (step (stock old.shelf (blind (kind.view old.disk))) (stock new.shelf (blind (kind.view new.disk)))
     (journaled old.durable old.disk) (journaled new.durable new.disk)) line a
     → SurvivesLine stores kind old new line
-answered_survives stores kind store_laws disk_laws old new line a goes is = λ m stands grow left stop.
+answered_survives stores kind store_laws disk_laws old new line a goes is = λ m small stands grow left stop.
     let was : StandsJournaled stores kind old.shelf (journaled old.durable old.disk) m
     = record { core = λ all. stands.machine; journal = λ all told room. stands } in
-    let law = is.lawful stands.shelf m was in
+    let law = is.lawful stands.shelf m small was in
     let room : CoreHasRoom new.durable.core = (
       let low = grow.0 in let more = is.goes_on.number in omega (arith, low, more),
       let low = grow.1 in let more = is.goes_on.next_tx in omega (arith, low, more),
@@ -197,7 +197,7 @@ bad_is stores kind laws here (answer.Bad w) sound is =
         own = refl;
         kept = λ tells h. h;
       };
-      lawful = λ tells m stands. record {
+      lawful = λ tells m small stands. record {
         stands = stands;
         may = refl;
         number = sym (stands.core tells.tables.all).tables.number;

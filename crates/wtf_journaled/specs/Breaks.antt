@@ -11,6 +11,7 @@ use Rattle.wtf_serve.specs.Endings.{stop_status}
 use Rattle.wtf_serve.specs.Passes.{CameLine, IsQuiet}
 use Rattle.wtf_serve.specs.Scripts.{line_of}
 use Rattle.wtf_durable.specs.Journaled.{StandsDurably}
+use Rattle.wtf_core.specs.Standing.{IsSmall}
 use Rattle.wtf_core.specs.Views.{CoreView}
 use Rattle.wtf_durable.specs.Stops.{LeavesTree, Leftover, StopNow}
 use Rattle.wtf_durable.specs.Views.{DurableScene}
@@ -44,10 +45,10 @@ MayGrow core = (core.tables.kv.number < 2 ^ 62) × (core.tables.next_tx < 2 ^ 62
 abbrev pub MayGive : Machine → Line → Tree → Type 0
 MayGive m line t = (a : Answer) × MayLine m line a × (t ≡ (after_line m line a).now)
 
--- A stop behind a line that was not answered, or not told of, leaves the tree before it, or the one behind it.
+-- A stop behind a line on a small tree that was not answered, or not told of, leaves the tree before it, or the one behind it.
 abbrev pub SurvivesLine : {S D : Type 0} → DiskKind S → DiskKind D → (old new : DurableScene S D) → Line → Type 0
 SurvivesLine stores kind old new line =
-    (m : Machine) → StandsDurably stores kind old m → MayGrow old.durable.core
+    (m : Machine) → IsSmall m → StandsDurably stores kind old m → MayGrow old.durable.core
     → (left : Leftover) → StopNow stores kind new left → (t : Tree) × ((t ≡ m.now) ⊎ MayGive m line t) × LeavesTree left t
 
 -- a line was read, behind which the run breaks off

@@ -44,7 +44,7 @@ use Rattle.wtf_serve.specs.Stocks.{Stock, IsSaveFault, IsTelling, HoldsOneOf, Ho
 use Rattle.wtf_serve.specs.Turns.{IsLeftAlone}
 use Rattle.wtf_serve.specs.Traces.{HasRead}
 use Rattle.wtf_serve.proofs.Closing.{closing_rose, still_count, still_save, still_status}
-use Rattle.wtf_serve.proofs.Going.{Going, given_then, counted_then, room_now}
+use Rattle.wtf_serve.proofs.Going.{Going, given_then, counted_then, room_now, short_now, small_now}
 use Rattle.wtf_serve.proofs.Leaving.{KeepsWithin, left_saved, left_failed, left_early, left_short, left_out}
 use Rattle.wtf_serve.proofs.Picturing.{holds_on, starts_on, start_on, next_saved, next_kept, next_out}
 use Rattle.wtf_serve.proofs.PunchLaws.{only_still}
@@ -137,7 +137,8 @@ module _ {S State : Type 0} (engine : Engine S State) (laws : KindLaws engine.ki
       let m = last opening t g.log in
       let stands = g.so_far.stands tells t (starts_wide t from) in
       subst (λ (s : Settings). HoldsTree final.keeper (byte_at engine.kind (stores_of s final.shelf)) may) (is.goes_on.settings ∙ g.so_far.settings)
-      (keeps final state' (after_line m line a) may is.goes_on.sound (is.lawful named m stands).stands
+      (keeps final state' (after_line m line a) may is.goes_on.sound
+      (is.lawful named m (small_now engine laws opening start now next bad g (all_told start.stock.shelf) t (starts_wide t from)) stands).stands
       ((is.told named m stands).within ((g.so_far.told tells).within_from t from)) (is.goes_on.kept (g.keeper.tells ∙ telling.tells) (g.kept telling)) held)
 
   -- the run ends without a further line
@@ -259,7 +260,8 @@ module _ {S State : Type 0} (engine : Engine S State) (laws : KindLaws engine.ki
     lawful : (a : _) → IsAnswer engine t (Ok event.Save) a → TellsAll engine.kind start.stock.shelf → (tree : Tree)
         → StartsFrom (byte_at engine.kind start.stock.shelf) opening.bytes tree → IsLineLawful engine t (last opening tree g.log) (Ok event.Save) a
     lawful a is tells tree from =
-        is.lawful ((g.so_far.told tells).tells tree from) (last opening tree g.log) (g.so_far.stands tells tree from)
+        is.lawful ((g.so_far.told tells).tells tree from) (last opening tree g.log)
+        (small_now engine laws opening start now next bad g (all_told start.stock.shelf) tree from) (g.so_far.stands tells tree from)
 
     finish_saved : (status n : ℕ) → status ≡ end_status bad → IsEndStatus status → IsAnswer engine t (Ok event.Save) (answer.Saved n)
         → Served engine.kind handed opening status start (record { source = next.input.source; sink = sink'; stock = final })
@@ -352,7 +354,8 @@ module _ {S State : Type 0} (engine : Engine S State) (laws : KindLaws engine.ki
         (λ e. absurd (omega (arith, e, ends))) (λ e. absurd (omega (arith, e, ends)))
         (λ tells telling. absurd (true≢false (sym telling.tells ∙ blind)))
 
-    pub blind_log : (blind : start.stock.keeper.tells ≡ false) (same : SameLengths engine.kind now.stock.shelf final.shelf) → (finish_blind blind same).log ≡ g.log
+    pub blind_log : (blind : start.stock.keeper.tells ≡ false) (same : SameLengths engine.kind now.stock.shelf final.shelf)
+        → (finish_blind blind same).log ≡ g.log
     unfolding finish_blind finish
     blind_log blind same = refl
 
@@ -470,7 +473,8 @@ module _ {S State : Type 0} (engine : Engine S State) (laws : KindLaws engine.ki
       let is = out.out.is in
       let a = out.out.answer in
       let m = last opening tree g.log in
-      let law = is.lawful ((g.so_far.told tells).tells tree from) m (g.so_far.stands tells tree from) in
+      let law = is.lawful ((g.so_far.told tells).tells tree from) m
+      (small_now engine laws opening start now next bad g (all_told start.stock.shelf) tree from) (g.so_far.stands tells tree from) in
       let holds = law.saved (g.keeper.tells ∙ telling.tells) room (g.kept telling) (g.saved tells telling number next_tx tree from) in (
         left_out (all_told next.stock.shelf) m start.source.rest g.log.lines next.stock.keeper bytes held out.line (out_line out) a law.may holds,
         next_out engine.kind opening m g.log.lines next.stock bytes held (engine.number next.state) (engine.next_tx next.state)
@@ -513,9 +517,10 @@ module _ {S State : Type 0} (engine : Engine S State) (laws : KindLaws engine.ki
       let cut = pass.came.cut in
       let log = longer g.log line cut.answer in
       let t = step_of now next in
-      let same = last_more engine laws opening start.stock g.log t g.so_far line cut.answer cut.is pass.keeper.faults in
-      let law = lawful_more engine laws opening start.stock g.log t g.so_far line cut.answer cut.is pass.keeper.faults in
-      let ran = (so_far_more engine laws opening start.stock g.log t g.so_far line cut.answer cut.is pass.keeper.faults).ran in
+      let short = short_now engine laws opening start now next bad g in
+      let same = last_more engine laws opening start.stock g.log t g.so_far line cut.answer cut.is pass.keeper.faults short in
+      let law = lawful_more engine laws opening start.stock g.log t g.so_far line cut.answer cut.is pass.keeper.faults short in
+      let ran = (so_far_more engine laws opening start.stock g.log t g.so_far line cut.answer cut.is pass.keeper.faults short).ran in
       let rose : Rose start.sink.faults next.sink.faults = rose_in start.sink.faults now.sink.faults next.sink.faults next.sink.faults
       (omega (arith, g.sink_still)) cut.cause (omega arith) in
       let holds : TellsAll engine.kind start.stock.shelf → IsTelling start.stock.keeper opening.bytes → opening.number ≤ 2 ^ 61 → opening.next_tx ≤ 2 ^ 61

@@ -18,7 +18,9 @@ use Rattle.wtf_model.specs.Lines.{Line, state_after, after_line}
 use Rattle.wtf_model.specs.Servers.{none_down, down_after}
 use Rattle.wtf_image.specs.Rules.{size_in}
 use Rattle.wtf_gc.specs.Frees.{lie_in}
+use Rattle.wtf_meta.specs.Contents.{Told}
 use Rattle.wtf_core.specs.Pictured.{IsTakenFor}
+use Rattle.wtf_core.specs.Standing.{IsSmall}
 use Rattle.wtf_script.specs.declared.limits.TheConstants.{SCRIPT_BYTES}
 use Rattle.wtf_script.specs.Reading.{work}
 use Rattle.wtf_serve.specs.Beginnings.{CanBegin}
@@ -29,11 +31,12 @@ use Rattle.wtf_serve.specs.Openings.{Opening, IsTakenOver, StartsFrom, first}
 use Rattle.wtf_serve.specs.Passes.{Hand, hand, input, step_of, HasDrawn, PassIs}
 use Rattle.wtf_serve.specs.Scripts.{line_of, line_text, has_bad}
 use Rattle.wtf_serve.specs.Stocks.{stock, KeeperGoesOn, IsTelling, HoldsOneOf, HoldsStart}
+use Rattle.wtf_serve.proofs.Growing.{stays_small}
 use Rattle.wtf_serve.proofs.Picturing.{starts_holds}
 use Rattle.wtf_serve.proofs.Quieting.{quiet_none, collected_none}
 use Rattle.wtf_serve.proofs.RanLaws.{longer, asked-longer, ran_none, none_ran, SoFar, lawful_more, last_more, so_far_more}
 use Rattle.wtf_serve.proofs.ScriptLaws.{has_bad-push}
-use Rattle.wtf_serve.proofs.Telling.{Told, some_same, told_none, told_more}
+use Rattle.wtf_serve.proofs.Telling.{Told as IsTold, some_same, told_none, told_more}
 
 -- a run so far: the lines with their answers, what the run has in hand, and whether one of the lines asked nothing
 pub record Going {S State : Type 0} (engine : Engine S State) (opening : Opening) (start : Devices S) (now : Hand S State) (bad : Bool) : Type 0 where
@@ -48,6 +51,7 @@ pub record Going {S State : Type 0} (engine : Engine S State) (opening : Opening
   pub number_is : TellsAll engine.kind start.stock.shelf → (t : Tree) → StartsFrom (byte_at engine.kind start.stock.shelf) opening.bytes t
       → engine.number now.state ≡ (last opening t log).number
   pub begun : engine.next_tx now.state ≤ opening.next_tx + length log.lines
+  pub lines : length log.lines + work now.input.held ≤ SCRIPT_BYTES + 1
   pub taken : IsTakenOver (size_in engine.kind start.stock.shelf) opening.bytes
   pub bad_is : has_bad (asked log) ≡ bad
   pub sound : engine.sound now.stock.shelf now.state
@@ -56,7 +60,7 @@ pub record Going {S State : Type 0} (engine : Engine S State) (opening : Opening
   pub next_tx : engine.next_tx now.state + work now.input.held ≤ opening.next_tx + (SCRIPT_BYTES + 1)
   pub room : (opening.number ≤ 2 ^ 62) × (opening.next_tx ≤ 2 ^ 62)
   pub count : now.input.held.count ≤ SCRIPT_BYTES
-  pub read : (script : List ℕ) → start.source.rest ≡ Some script → Told script now.input.source.rest now.input.held log.lines
+  pub read : (script : List ℕ) → start.source.rest ≡ Some script → IsTold script now.input.source.rest now.input.held log.lines
   pub wrote : (old : List ℕ) → start.sink.taken ≡ Some old → now.sink.taken ≡ Some (old ++ output opening log.answers)
   pub given : start.source.given ≤ 2 ^ 64 - 1 → now.input.source.given ≡ min (start.source.given + now.input.held.count) (2 ^ 64 - 1)
   pub counted : (script left : List ℕ) → start.source.rest ≡ Some script → now.input.source.rest ≡ Some left
@@ -125,6 +129,7 @@ going_none engine laws opening start sink' keeper' state ready room begins keepe
   kept = λ telling. ready.kept keeper' (held opening.bytes telling.held);
   number_is = λ tells t from. ready.number ∙ sym (ap (λ (m : Machine). m.number) (after_none after_line (first opening t)));
   begun = omega (arith, ready.next_tx);
+  lines = omega arith;
   taken = ready.taken;
   bad_is = refl;
   sound = ready.sound;
@@ -163,6 +168,13 @@ module _ {S State : Type 0} (engine : Engine S State) (laws : KindLaws engine.ki
   pub room_now : opening.number ≤ 2 ^ 61 → opening.next_tx ≤ 2 ^ 61 → StateHasRoom engine now.state
   room_now low few = record { number = omega (arith, g.number, low); next_tx = omega (arith, g.next_tx, few) }
 
+  -- few lines have run, so the tree is small
+  pub short_now : length g.log.lines ≤ SCRIPT_BYTES + 1
+  short_now = omega (arith, g.lines)
+
+  pub small_now : (told : Told) (t : Tree) → StartsFrom told opening.bytes t → IsSmall (last opening t g.log)
+  small_now told t from = stays_small opening told t g.log from short_now
+
   -- a line was answered
   pub going_on : (more : Bool) → PassIs engine now next (Ok (Some more)) → Going engine opening start next (bad || more)
   going_on more pass =
@@ -170,11 +182,11 @@ module _ {S State : Type 0} (engine : Engine S State) (laws : KindLaws engine.ki
       let a = pass.came.done.answer in
       let is = pass.came.done.is in
       let t = step_of now next in
-      let same = last_more engine laws opening start.stock g.log t g.so_far line a is pass.keeper.faults in
-      let law = lawful_more engine laws opening start.stock g.log t g.so_far line a is pass.keeper.faults in
+      let same = last_more engine laws opening start.stock g.log t g.so_far line a is pass.keeper.faults short_now in
+      let law = lawful_more engine laws opening start.stock g.log t g.so_far line a is pass.keeper.faults short_now in
       record {
         log = longer g.log line a;
-        so_far = so_far_more engine laws opening start.stock g.log t g.so_far line a is pass.keeper.faults;
+        so_far = so_far_more engine laws opening start.stock g.log t g.so_far line a is pass.keeper.faults short_now;
         saved = λ tells telling number next_tx tree from.
             subst (λ (m : Machine). HoldsOneOf engine.kind next.stock m.may_be_saved) (same tree)
             ((law tells tree from).saved (g.keeper.tells ∙ telling.tells) (room_now number next_tx) (g.kept telling)
@@ -187,6 +199,7 @@ module _ {S State : Type 0} (engine : Engine S State) (laws : KindLaws engine.ki
         kept = λ telling. is.goes_on.kept (g.keeper.tells ∙ telling.tells) (g.kept telling);
         number_is = λ tells tree from. (law tells tree from).number ∙ ap (λ (m : Machine). m.number) (same tree);
         begun = omega (arith, is.goes_on.next_tx, g.begun, length-append g.log.lines (line ∷ []));
+        lines = omega (arith, g.lines, pass.came.less, length-append g.log.lines (line ∷ []));
         taken = g.taken;
         bad_is = ap has_bad (asked-longer g.log line a) ∙ has_bad-push (asked g.log) (line_of line) ∙ ap (λ (b : Bool). b || is_err (line_of line)) g.bad_is
             ∙ ap (λ (b : Bool). bad || b) pass.came.bad_is;

@@ -1,5 +1,5 @@
 -- What a line makes of the keeper, by what the core promises.
-use Rattle.std.proofs.Common.{◌≡◌, ℕ, List, [], ◌∷◌, ◌++◌, Ok, refl, sym, ◌∙◌, ap, subst, inl, inr, arith}
+use Rattle.std.proofs.Common.{◌≡◌, ℕ, List, [], ◌∷◌, ◌++◌, Ok, refl, sym, ap, subst, inl, inr, arith}
 use Rattle.wtf_base.specs.declared.settings.Settings.{Settings}
 use Rattle.wtf_dev.specs.Keep.{KeeperView, KeeperKept}
 use Rattle.wtf_dev.specs.Store.{StoreKind}
@@ -11,7 +11,7 @@ use Rattle.wtf_model.specs.declared.event.Event.{Event}
 use Rattle.wtf_model.specs.declared.event.Event.TheVariants as event
 use Rattle.wtf_image.specs.Images.{HasText}
 use Rattle.wtf_image.specs.Rows.{ImageRows}
-use Rattle.wtf_image.specs.Texts.{image_text}
+use Rattle.wtf_image.proofs.Forms.{text_some as image_some}
 use Rattle.wtf_core.specs.Views.{TablesView, CoreView}
 use Rattle.wtf_core.specs.Keeping.{KeeperSpan, keeper_span, KeeperTurn, HasSaved}
 use Rattle.wtf_core.specs.Saves.{SaveTurn, AreUp}
@@ -22,8 +22,7 @@ use Rattle.wtf_serve.specs.Stocks.{stock, KeeperGoesOn, KeeperStays, HandsOver, 
 
 -- an image has bytes
 pub text_some : (rows : ImageRows) (bytes : List ℕ) → HasText rows bytes → bytes ≡ [] → ⊥
-unfolding image_text
-text_some rows bytes text none = let never : image_text rows ≡ [] = sym text.text ∙ none in cc
+text_some rows bytes has none = image_some rows bytes has.text none
 
 saved_some : {S : Type 0} (kind : StoreKind S) (t : Span S) (k : KeeperSpan) (settings : Settings) (tables : TablesView)
     → HasSaved kind t k settings tables → HoldsSome k.before k.after

@@ -6,6 +6,7 @@ pub mod Rising
 pub mod Picturing
 pub mod PunchLaws
 pub mod Quieting
+pub mod Growing
 pub mod RanLaws
 pub mod Telling
 pub mod Starting

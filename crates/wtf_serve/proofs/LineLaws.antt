@@ -33,7 +33,7 @@ or_none false = refl
 -- a line that asks nothing leaves the core
 module _ {S : Type 0} (kind : StoreKind S) (here : Stock S) (core : CoreView) (bad : Answer) where
   pub bad_obeys : Obeys (engine kind) (step here here core core) (Err bad) bad
-  bad_obeys = λ tells m stands. record {
+  bad_obeys = λ tells m small stands. record {
     stands = stands;
     may = refl;
     number = sym stands.tables.number;
@@ -200,8 +200,8 @@ module _ {S : Type 0} (kind : StoreKind S) (t : Step S CoreView) (e : Event) (a 
   }
 
   pub event_obeys : IsSoundCore kind t.before.shelf t.old → promised.Obeys kind before behind e a → Obeys (engine kind) t (Ok e) a
-  event_obeys was obeys = λ tells m stands.
-      let law = obeys tells m stands in
+  event_obeys was obeys = λ tells m small stands.
+      let law = obeys tells m small stands in
       record {
         stands = law.event.stands;
         may = law.event.may;

@@ -44,6 +44,8 @@ use Rattle.wtf_base.proofs.Elements.{element}
 use Rattle.wtf_replica.proofs.Spans.{same_lengths-stored}
 use Rattle.wtf_dev.proofs.Each.{each_same, each_on}
 use Rattle.wtf_dev.proofs.Sums.{all_faults-grows}
+use Rattle.wtf_script.specs.declared.limits.TheConstants.{SCRIPT_BYTES}
+use Rattle.wtf_serve.proofs.Growing.{stays_small}
 use Rattle.wtf_serve.proofs.Picturing.{starts_on}
 use Rattle.wtf_serve.proofs.Quieting.{QuietSoFar, quiet_more, collected_more}
 use Rattle.wtf_serve.proofs.Rising.{one, FaultsGrow, faults_grow, full_unread, raises, raises_of_run}
@@ -228,7 +230,7 @@ pub record SoFar {S State : Type 0} (engine : Engine S State) (opening : Opening
 
 module _ {S State : Type 0} (engine : Engine S State) (laws : KindLaws engine.kind) (opening : Opening) (before : Stock S) (log : Log) (t : Step S State)
     (g : SoFar engine opening log before t.before t.old) (line : List ℕ) (a : Answer) (is : IsAnswer engine t (line_of line) a)
-    (keeper : t.before.keeper.faults ≤ t.after.keeper.faults) where
+    (keeper : t.before.keeper.faults ≤ t.after.keeper.faults) (short : length log.lines ≤ SCRIPT_BYTES + 1) where
   next : EachFollows engine.kind t.before.shelf t.after.shelf is.punched.ranges
   next = is.punched.follows
 
@@ -244,7 +246,8 @@ module _ {S State : Type 0} (engine : Engine S State) (laws : KindLaws engine.ki
 
   pub lawful_more : TellsAll engine.kind before.shelf → (tree : Tree) → StartsFrom (byte_at engine.kind before.shelf) opening.bytes tree
       → IsLineLawful engine t (last opening tree log) (line_of line) a
-  lawful_more tells tree from = is.lawful ((g.told tells).tells tree from) (last opening tree log) (g.stands tells tree from)
+  lawful_more tells tree from = is.lawful ((g.told tells).tells tree from) (last opening tree log)
+      (stays_small opening (byte_at engine.kind before.shelf) tree log from short) (g.stands tells tree from)
 
   along : (P : Machine → Line → Answer → Type 0) (m : Machine) → Along P m (asked log) log.answers
       → P (machine_after m (asked log) log.answers) (line_of line) a

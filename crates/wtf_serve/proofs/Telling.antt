@@ -220,7 +220,7 @@ told_much script left left' held held' lines unended few told reads counted =
         whole,
         left_is,
         shorter script (fed lines ++ (held.bytes ++ came)) tail b (SCRIPT_BYTES) whole (counted tail left_is),
-        ended_came lines (held.bytes ++ came) was.1 plain,
+        (ended_came lines (held.bytes ++ came) was.1 plain),
       );
     }
 

@@ -68,7 +68,8 @@ begins_of size asked (b ∷ bytes) o is (rows, taken) = inr (record {
 })
 
 -- the first line, by the state
-pub line_of_first : {S State : Type 0} (engine : Engine S State) (o : Opening) (state : State) → engine.settings state ≡ o.settings → engine.number state ≡ o.number
+pub line_of_first : {S State : Type 0} (engine : Engine S State) (o : Opening) (state : State)
+    → engine.settings state ≡ o.settings → engine.number state ≡ o.number
     → settings_line (engine.settings state) (engine.number state) ≡ first_line o
 line_of_first engine o state settings number =
     ap (λ (x : Settings). settings_line x (engine.number state)) settings ∙ ap (λ (n : ℕ). settings_line o.settings n) number

@@ -23,6 +23,7 @@ use Rattle.wtf_model.specs.Tree.{Tree}
 use Rattle.wtf_core.specs.Named.{no_slice}
 use Rattle.wtf_core.specs.Outcomes.{AddsBytes, IsUnspilled, IsUnread, SaveFault, HasCause}
 use Rattle.wtf_core.specs.Pictured.{IsBareImage}
+use Rattle.wtf_core.specs.Standing.{IsSmall}
 use Rattle.wtf_core.specs.Telling.{stores_of}
 use Rattle.wtf_core.specs.Quiet.{ImageNames, IsIdle, Stage, Saved, ScannedTwice}
 use Rattle.wtf_serve.specs.Answering.{IsOwnAnswer, line_load}
@@ -159,10 +160,10 @@ pub record IsLineLawful {S State : Type 0} (engine : Engine S State) (t : Step S
   pub left : (k n : ℕ) → engine.collected k t.before.shelf t.old → line ≡ Ok event.Save → a ≡ answer.Saved n → t.before.keeper.tells ≡ true
       → LeavesNamed engine t k
 
--- the same of each machine that the state stands for, where the stores tell what it names
+-- the same of each machine that the state stands for, whose tree is small, where the stores tell what the state names
 abbrev pub Obeys : {S State : Type 0} → Engine S State → Step S State → Line → Answer → Type 0
 Obeys engine t line a =
-    engine.tells t.before.shelf t.old → (m : Machine) → engine.stands t.before.shelf t.old m → IsLineLawful engine t m line a
+    engine.tells t.before.shelf t.old → (m : Machine) → IsSmall m → engine.stands t.before.shelf t.old m → IsLineLawful engine t m line a
 
 -- the stores grew by what the line writes
 abbrev pub Stores : {S State : Type 0} → Engine S State → Step S State → Line → Answer → Type 0
