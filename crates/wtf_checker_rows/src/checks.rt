@@ -150,8 +150,34 @@ c0 try
 sys put j0
 ";
 
+/// A file of two paths gets a third one while another client, to whom the number was shown, is at work.
+const COUNTED: &str = "c0 begin
+c0 create /a
+c0 link /a /b
+c0 try
+c0 begin
+c0 stat /b
+c1 begin
+c1 link /a /c
+c1 try
+c0 try
+";
+
+/// The same, where the number was not shown.
+const UNCOUNTED: &str = "c0 begin
+c0 create /a
+c0 link /a /b
+c0 try
+c0 begin
+c0 open f0 /b
+c1 begin
+c1 link /a /c
+c1 try
+c0 try
+";
+
 /// Other scripts.
-const SCRIPTS: [Row; 12] = [
+const SCRIPTS: [Row; 16] = [
     Row {
         name: "nothing at all",
         script: "",
@@ -245,6 +271,70 @@ committed 2
 stale 1 2
 ",
         line: "yes 9\n",
+    },
+    Row {
+        name: "a number of paths that another changed",
+        script: COUNTED,
+        output: "wtf servers 4 replicas 2 region 65536 number 0
+begun 0
+ok
+ok
+committed 1
+begun 1
+file 0 links 2
+begun 1
+ok
+committed 2
+retry 1 2
+",
+        line: "yes 10\n",
+    },
+    Row {
+        name: "a commit whose number of paths another changed",
+        script: COUNTED,
+        output: "wtf servers 4 replicas 2 region 65536 number 0
+begun 0
+ok
+ok
+committed 1
+begun 1
+file 0 links 2
+begun 1
+ok
+committed 2
+committed 3
+",
+        line: "no 10\n",
+    },
+    Row {
+        name: "a number of paths that is too small",
+        script: COUNTED,
+        output: "wtf servers 4 replicas 2 region 65536 number 0
+begun 0
+ok
+ok
+committed 1
+begun 1
+file 0
+",
+        line: "no 6\n",
+    },
+    Row {
+        name: "a number of paths that was not shown",
+        script: UNCOUNTED,
+        output: "wtf servers 4 replicas 2 region 65536 number 0
+begun 0
+ok
+ok
+committed 1
+begun 1
+ok
+begun 1
+ok
+committed 2
+retry 1 2
+",
+        line: "no 10\n",
     },
     Row {
         name: "an answer with a capital letter",
