@@ -1,5 +1,6 @@
 #!/bin/sh
-# Puts a file of random bytes into a store and takes it out again, in a run of its own, and compares the two byte by byte.
+# Puts a file of random bytes into a store and takes it out again, in a run of its own and by a second path, and compares the two
+# byte by byte.
 #
 #   examples/bytes.sh [BYTES]     BYTES is 1048576
 #
@@ -14,7 +15,8 @@ trap 'exit 1' HUP INT TERM
 mkdir "$work/store"
 head -c "$bytes" /dev/urandom > "$work/file"
 "$top/tools/wtf-put" "$work/store" /data/file < "$work/file"
-"$top/tools/wtf-get" "$work/store" /data/file "$work/copy"
+printf '%s\n' 'c0 begin' 'c0 link /data/file /file' 'c0 try' | "$top/build/wtf" "$work/store" | grep '^committed ' > /dev/null
+"$top/tools/wtf-get" "$work/store" /file "$work/copy"
 cmp "$work/file" "$work/copy"
 
 stored=$(($(cat "$work"/store/s*/[0-7] | wc -c)))

@@ -6,29 +6,50 @@ use std::test::Fail;
 
 /// The record of the first save, of 4 servers: the image of the root alone. A closed gate ends it.
 const ROOT: [u8; 53] = [
-    1, 0, 0, 0, 0, 0, 0, 0, 43, 0, 87, 84, 70, 73, 77, 71, 48, 49, 4, 2, 0, 1, 0, 0, 0, 0, 0, 0, 0,
+    1, 0, 0, 0, 0, 0, 0, 0, 43, 0, 87, 84, 70, 73, 77, 71, 48, 50, 4, 2, 0, 1, 0, 0, 0, 0, 0, 0, 0,
     0, 0, 0, 0, 0, 0, 0, 0, 0, 0, 1, 0, 0, 0, 1, 0, 1, 47, 0, 0, 0, 0, 0, 0,
 ];
 
 /// And behind it the record of a commit that makes `/a`.
 const MADE: [u8; 123] = [
-    1, 0, 0, 0, 0, 0, 0, 0, 43, 0, 87, 84, 70, 73, 77, 71, 48, 49, 4, 2, 0, 1, 0, 0, 0, 0, 0, 0, 0,
+    1, 0, 0, 0, 0, 0, 0, 0, 43, 0, 87, 84, 70, 73, 77, 71, 48, 50, 4, 2, 0, 1, 0, 0, 0, 0, 0, 0, 0,
     0, 0, 0, 0, 0, 0, 0, 0, 0, 0, 1, 0, 0, 0, 1, 0, 1, 47, 0, 0, 0, 0, 0, 1, 0, 0, 0, 0, 0, 0, 0,
     61, 1, 0, 0, 0, 0, 0, 0, 0, 1, 0, 0, 0, 0, 0, 0, 0, 2, 0, 0, 0, 1, 0, 2, 47, 97, 1, 0, 0, 0, 0,
     0, 0, 0, 1, 0, 0, 0, 1, 0, 0, 0, 1, 0, 0, 0, 0, 0, 0, 0, 1, 0, 0, 0, 1, 1, 0, 0, 0, 0, 0, 0, 0,
 ];
 
+/// And behind that the record of a commit that gives the file a second path: it names the path alone.
+const SHARED: [u8; 178] = [
+    1, 0, 0, 0, 0, 0, 0, 0, 43, 0, 87, 84, 70, 73, 77, 71, 48, 50, 4, 2, 0, 1, 0, 0, 0, 0, 0, 0, 0,
+    0, 0, 0, 0, 0, 0, 0, 0, 0, 0, 1, 0, 0, 0, 1, 0, 1, 47, 0, 0, 0, 0, 0, 1, 0, 0, 0, 0, 0, 0, 0,
+    61, 1, 0, 0, 0, 0, 0, 0, 0, 1, 0, 0, 0, 0, 0, 0, 0, 2, 0, 0, 0, 1, 0, 2, 47, 97, 1, 0, 0, 0, 0,
+    0, 0, 0, 1, 0, 0, 0, 1, 0, 0, 0, 1, 0, 0, 0, 0, 0, 0, 0, 1, 0, 0, 0, 1, 1, 0, 0, 0, 0, 0, 0, 1,
+    0, 0, 0, 0, 0, 0, 0, 46, 1, 0, 0, 0, 0, 0, 0, 0, 2, 0, 0, 0, 0, 0, 0, 0, 3, 0, 0, 0, 1, 0, 2,
+    47, 98, 1, 0, 0, 0, 0, 0, 0, 0, 1, 0, 0, 0, 1, 0, 0, 0, 0, 0, 0, 0, 0, 0,
+];
+
+/// Makes `/a`.
+const MAKES: &[u8] = b"c0 begin\nc0 create /a\nc0 commit\n";
+
+/// Makes `/a`, and gives it a second path.
+const SHARES: &[u8] = b"c0 begin\nc0 create /a\nc0 commit\nc0 begin\nc0 link /a /b\nc0 commit\n";
+
 /// Scripts, what they are answered, and the journal that they leave.
-const RUNS: [(&[u8], &[u8], &[u8]); 3] = [
+const RUNS: [(&[u8], &[u8], &[u8]); 4] = [
     (
         b"",
         b"wtf servers 4 replicas 2 region 65536 number 0\n",
         &ROOT,
     ),
     (
-        b"c0 begin\nc0 create /a\nc0 commit\n",
+        MAKES,
         b"wtf servers 4 replicas 2 region 65536 number 0\nbegun 0\nok\ncommitted 1\n",
         &MADE,
+    ),
+    (
+        SHARES,
+        b"wtf servers 4 replicas 2 region 65536 number 0\nbegun 0\nok\ncommitted 1\nbegun 1\nok\ncommitted 2\n",
+        &SHARED,
     ),
     (
         b"c0 begin\nc0 create /a\n",
@@ -53,21 +74,73 @@ fn each_commit_is_a_record(rt: HostRuntime) -> Result<(), Fail> {
     Ok(())
 }
 
-/// What a run shows behind a commit that makes `/a`: the tree, and how many installs there were.
-const LATER: &[u8] = b"wtf servers 4 replicas 2 region 65536 number 1\ntree d:/ f:/a:0\nbegun 1\n";
+/// A script, one behind a stop of its run, and what that one is answered: the tree, and how many installs there were. The number
+/// of a file's paths is counted from them.
+const LATER: [(&[u8], &[u8], &[u8]); 2] = [
+    (
+        MAKES,
+        b"sys tree\nc0 begin\n",
+        b"wtf servers 4 replicas 2 region 65536 number 1\ntree d:/ f:/a:0\nbegun 1\n",
+    ),
+    (
+        SHARES,
+        b"sys tree\nc0 begin\nc0 stat /a\nc0 unlink /a\nc0 stat /b\n",
+        b"wtf servers 4 replicas 2 region 65536 number 2\ntree d:/ f:/a:0 f:/b:0\nbegun 2\nfile 0 links 2\nok\nfile 0\n",
+    ),
+];
 
-/// What a run shows behind a stop of one that made `/a`.
-fn shown_behind(alloc: Global, script: &[u8]) -> Result<Vec<u8>, Fail> {
+/// What a script is answered behind a stop of another one's run.
+fn shown_behind(alloc: Global, first: &[u8], script: &[u8]) -> Result<Vec<u8>, Fail> {
     let mut disks = fresh(alloc, 4, NONE)?;
-    let _ = run(alloc, b"c0 begin\nc0 create /a\nc0 commit\n", &mut disks)?;
+    let _ = run(alloc, first, &mut disks)?;
     let mut left = stopped(alloc, &mut disks, 1)?;
     Ok(run(alloc, script, &mut left)?.output)
 }
 
 #[test]
 fn the_next_run_goes_on(rt: HostRuntime) -> Result<(), Fail> {
-    let shown = shown_behind(rt.alloc(), b"sys tree\nc0 begin\n")?;
-    assert_eq!(rt; shown.as_slice(), LATER);
+    for (first, script, wanted) in LATER {
+        let shown = shown_behind(rt.alloc(), first, script)?;
+        assert_eq!(rt; shown.as_slice(), wanted);
+    }
+    Ok(())
+}
+
+/// Where the byte lies that tells the version of the first image, where the records end, and where an image begins behind them.
+const VERSION: usize = 17;
+
+const RECORDS_END: usize = 122;
+
+const NEXT_IMAGE: usize = 132;
+
+/// The first image is made one of the first version.
+fn aged(alloc: Global) -> Result<Vec<u8>, Fail> {
+    let mut old = MADE.to_vec(alloc)?;
+    if let Some(version) = old.get_mut(VERSION) {
+        *version = b'1';
+    }
+    Ok(old)
+}
+
+/// Whether an image of the second version begins there.
+fn is_new_image(bytes: &[u8], at: usize) -> bool {
+    at < bytes.len() && bytes[at..].starts_with(b"WTFIMG02")
+}
+
+/// Whether so many bytes of one journal stand at the front of another.
+fn has_front(bytes: &[u8], old: &[u8], len: usize) -> bool {
+    len <= old.len() && bytes.starts_with(&old[..len])
+}
+
+/// The image that is added behind the changes is of the second version.
+#[test]
+fn a_journal_with_an_old_image_goes_on(rt: HostRuntime) -> Result<(), Fail> {
+    let old = aged(rt.alloc())?;
+    let (ended, left) = run_on(rt.alloc(), "", old.as_slice())?;
+    let want = b"wtf servers 4 replicas 2 region 65536 number 1\ntree d:/ f:/a:0\n".as_slice();
+    assert_eq!(rt; (ended.status, ended.output.as_slice()), (0, want));
+    assert!(rt; has_front(left.as_slice(), old.as_slice(), RECORDS_END));
+    assert!(rt; is_new_image(left.as_slice(), NEXT_IMAGE));
     Ok(())
 }
 

@@ -8,7 +8,9 @@ use std::alloc::Global;
 use std::process::Abort;
 use std::test::Fail;
 use wtf_base::{InodeId, TxId};
-use wtf_index::{create, list, look_up, make_file, mkdir, rename, rmdir, source, target, unlink};
+use wtf_index::{
+    create, link, list, look_up, make_file, mkdir, rename, rmdir, source, target, unlink,
+};
 use wtf_kv::{Changes, Kv};
 use wtf_model::{Answer, Word};
 use wtf_occ::Attempt;
@@ -23,6 +25,7 @@ enum Call {
     Create(&'static str),
     Unlink(&'static str),
     Rename(&'static str, &'static str),
+    Link(&'static str, &'static str),
     List(&'static str),
     LookUp(&'static str),
     Source(&'static str),
@@ -101,6 +104,7 @@ fn file_answer(
         Call::Create(_) => Ok(Some(create(alloc, kv, at, p, InodeId { tx, index })?)),
         Call::Unlink(_) => Ok(Some(unlink(alloc, kv, at, p)?)),
         Call::Rename(_, _) => Ok(Some(rename(alloc, kv, at, p, q)?)),
+        Call::Link(_, _) => Ok(Some(link(alloc, kv, at, p, q)?)),
         _ => Ok(None),
     }
 }
@@ -170,6 +174,7 @@ fn texts_of(call: Call) -> (&'static str, &'static str) {
         Call::Create(p) => (p, "/"),
         Call::Unlink(p) => (p, "/"),
         Call::Rename(p, q) => (p, q),
+        Call::Link(p, q) => (p, q),
         Call::List(p) => (p, "/"),
         Call::LookUp(p) => (p, "/"),
         Call::Source(p) => (p, "/"),
@@ -297,6 +302,28 @@ fn a_directory_with_entries(rt: HostRuntime) -> Result<(), Fail> {
         (Call::Rename("/logs/mon", "/mon"), "ok"),
         (Call::List("/logs"), "names week"),
         (Call::List("/"), "names logs mon"),
+    ];
+    all_answer(&rt, rt.alloc(), &ROWS)
+}
+
+#[test]
+fn paths_of_one_file(rt: HostRuntime) -> Result<(), Fail> {
+    static ROWS: [(Call, &str); 15] = [
+        (Call::Create("/a"), "ok"),
+        (Call::Mkdir("/d"), "ok"),
+        (Call::Link("/a", "/d/b"), "ok"),
+        (Call::LookUp("/d/b"), "file 1"),
+        (Call::Unlink("/a"), "ok"),
+        (Call::LookUp("/d/b"), "file 1"),
+        (Call::Link("/a", "/c"), "refused noent"),
+        (Call::Link("/d", "/c"), "refused isdir"),
+        (Call::Link("/d/b", "/d/b"), "refused exists"),
+        (Call::Link("/d/b", "/x/c"), "refused noparent"),
+        (Call::Rename("/d/b", "/c"), "ok"),
+        (Call::List("/"), "names c d"),
+        (Call::Unlink("/c"), "ok"),
+        (Call::LookUp("/c"), "none"),
+        (Call::List("/"), "names d"),
     ];
     all_answer(&rt, rt.alloc(), &ROWS)
 }

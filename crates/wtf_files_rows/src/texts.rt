@@ -69,12 +69,21 @@ fn put_call(shown: &mut String, answer: &Answer) -> Result<(), Fail> {
         Answer::Dir => put(shown, "dir"),
         Answer::At(off) => put_number(shown, "at ", *off),
         Answer::Len(n) => put_number(shown, "len ", *n),
-        Answer::File { len } => put_number(shown, "file ", *len),
+        Answer::File { len, links } => put_file(shown, *len, *links),
         Answer::Refused(word) => put_word(shown, *word),
         Answer::Shown(bytes) => put_bytes(shown, bytes.as_slice()),
         Answer::Names(names) => put_names(shown, names),
         _ => put(shown, "another answer"),
     }
+}
+
+/// A file, and how many paths it has where it has more than one.
+fn put_file(shown: &mut String, len: u64, links: u64) -> Result<(), Fail> {
+    put_number(shown, "file ", len)?;
+    if links < 2 {
+        return Ok(());
+    }
+    put_number(shown, " links ", links)
 }
 
 fn put_bytes(shown: &mut String, bytes: &[u8]) -> Result<(), Fail> {

@@ -16,7 +16,7 @@ pub struct Script<'a> {
 const LOOKS: &[u8] = b"sys tree\nsys dump /a\nc31 begin\n";
 
 /// Scripts that answer as they should where nothing fails.
-pub const SCRIPTS: [Script<'static>; 7] = [
+pub const SCRIPTS: [Script<'static>; 8] = [
     Script {
         name: "a first file",
         servers: 4,
@@ -115,6 +115,7 @@ c0 try
     },
     SPILLED,
     LOG,
+    LINKED,
     Script {
         name: "a save behind a save that may fail",
         servers: 1,
@@ -208,6 +209,39 @@ sys tree
 sys dump /logs/week
 ",
     looks: b"sys tree\nsys dump /logs/mon\nsys dump /logs/tue\nsys dump /logs/week\nc31 begin\n",
+};
+
+/// A file that gets paths and loses them, while another client rests on how many it has.
+pub const LINKED: Script<'static> = Script {
+    name: "one file under several paths",
+    servers: 3,
+    replicas: 2,
+    region: 65_536,
+    lines: b"c0 begin
+c0 create /a
+c0 open f0 /a
+c0 write f0 t:ab
+c0 link /a /b
+c0 try
+c0 begin
+c0 stat /a
+c1 begin
+c1 open f0 /b
+c1 write f0 t:XY
+c1 link /b /c
+c1 try
+c0 commit
+sys save
+c0 begin
+c0 open f0 /c
+c0 append f0 t:z
+c0 unlink /a
+c0 unlink /b
+c0 stat /c
+c0 try
+sys dump /c
+",
+    looks: b"sys tree\nsys dump /b\nsys dump /c\nc31 begin\n",
 };
 
 /// The looks at the files of a script that is made from a number.

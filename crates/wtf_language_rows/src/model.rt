@@ -33,7 +33,7 @@ fn plain_are_copied(alloc: Global) -> bool {
         && is_copied(alloc, Answer::At(3))
         && is_copied(alloc, Answer::Len(3))
         && is_copied(alloc, Answer::Dir)
-        && is_copied(alloc, Answer::File { len: 3 })
+        && is_copied(alloc, Answer::File { len: 3, links: 2 })
         && is_copied(alloc, Answer::Refused(Word::NoEnt))
 }
 

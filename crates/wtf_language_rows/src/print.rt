@@ -69,7 +69,7 @@ fn bytes_and_lists_have_their_texts(rt: HostRuntime) {
 
 /// Whether the answer that a file has three bytes, of call 1, which ended a transaction, has this text.
 fn aborted_has_text(alloc: Global, line: &[u8]) -> bool {
-    let Ok(inner) = Box::new(alloc, Answer::File { len: 3 }) else {
+    let Ok(inner) = Box::new(alloc, Answer::File { len: 3, links: 1 }) else {
         return false;
     };
     has_text(alloc, Answer::Aborted(1, inner), line)
@@ -78,7 +78,7 @@ fn aborted_has_text(alloc: Global, line: &[u8]) -> bool {
 /// Whether this is that answer.
 fn is_aborted(answer: &Answer) -> bool {
     match answer {
-        Answer::Aborted(1, inner) => matches!(&**inner, Answer::File { len: 3 }),
+        Answer::Aborted(1, inner) => matches!(&**inner, Answer::File { len: 3, links: 1 }),
         _ => false,
     }
 }
@@ -121,6 +121,8 @@ fn answers_of_calls_have_texts(alloc: Global) -> bool {
         && has_text(alloc, Answer::At(4_294_967_296), b"at 4294967296")
         && has_text(alloc, Answer::Len(u64::MAX), b"len 18446744073709551615")
         && has_text(alloc, Answer::Dir, b"dir")
+        && has_text(alloc, Answer::File { len: 6, links: 1 }, b"file 6")
+        && has_text(alloc, Answer::File { len: 0, links: 2 }, b"file 0 links 2")
         && has_text(alloc, Answer::Committed(1), b"committed 1")
         && has_text(alloc, Answer::Retry { base: 1, now: 2 }, b"retry 1 2")
         && has_text(alloc, Answer::Replayed(7), b"replayed 7")
@@ -190,7 +192,7 @@ fn is_none(alloc: Global, line: &[u8]) -> bool {
     matches!(parse_answer(alloc, line), Err(TextError::NotAnAnswer))
 }
 
-const NO_TEXTS: [&[u8]; 36] = [
+const NO_TEXTS: [&[u8]; 44] = [
     b"",
     b" ok",
     b"ok ",
@@ -217,6 +219,14 @@ const NO_TEXTS: [&[u8]; 36] = [
     b"names ..",
     b"names a/b",
     b"tree d:a",
+    b"file",
+    b"file 3 links",
+    b"file 3 links 0",
+    b"file 3 links 1",
+    b"file 3 links 02",
+    b"file 3 links 2 2",
+    b"file 3 link 2",
+    b"file 3 2",
     b"tree f:/a",
     b"tree f:/a:",
     b"tree f:/a:00",

@@ -237,12 +237,14 @@ fn tells_what_is_wrong_with_a_length_or_data(rt: HostRuntime) {
     assert!(rt; are_wrong(rt.alloc(), &LENGTHS_AND_DATA));
 }
 
-const PATHS_AND_JOBS: [Wrong; 10] = [
+const PATHS_AND_JOBS: [Wrong; 12] = [
     (b"c0 mkdir a", Kind::Path(2)),
     (b"c0 mkdir /a/", Kind::Path(6)),
     (b"c0 concat /a", Kind::Count),
     (b"c0 concat /a /b c", Kind::Path(2)),
     (b"c0 rename q /a/", Kind::Path(2)),
+    (b"c0 link q /a/", Kind::Path(2)),
+    (b"c0 link /a", Kind::Count),
     (b"sys plan j8 shrink a -1", Kind::Job),
     (b"sys plan j0 shrink a -1", Kind::Word),
     (b"sys plan j0 spill /a -1", Kind::Number),

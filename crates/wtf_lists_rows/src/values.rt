@@ -11,13 +11,14 @@ use wtf_path::Path;
 use wtf_values::{Delta, Key, Name, NameSet, Pieces, RegionValue, Summary, Value};
 
 /// What came of a change: a region by its end, how far its base is seen, and the number of its
-/// entries; names by their number.
+/// entries; names and paths by their number.
 #[derive(Clone, Copy)]
 enum Shape {
     Gone,
     Region(u32, Option<u32>, usize),
     Last(u16),
     Names(usize),
+    Count(u64),
 }
 
 /// A change in plain numbers and texts.
@@ -33,6 +34,8 @@ enum Edit {
     PutLast(u16),
     AddName(&'static [u8]),
     DropName(&'static [u8]),
+    AddLink,
+    SubLink,
     Remove,
 }
 
@@ -49,7 +52,9 @@ const OF_REGION: [(Edit, Shape); 8] = [
 ];
 
 /// Changes where there is no value.
-const OF_NONE: [(Edit, Shape); 4] = [
+const OF_NONE: [(Edit, Shape); 6] = [
+    (Edit::AddLink, Shape::Count(2)),
+    (Edit::SubLink, Shape::Gone),
     (Edit::Zero(0, 9), Shape::Gone),
     (Edit::Raise(1), Shape::Gone),
     (Edit::PutLast(5), Shape::Last(5)),
@@ -70,6 +75,14 @@ const OF_NAMES: [(Edit, Shape); 3] = [
     (Edit::AddName(b"/d"), Shape::Names(2)),
     (Edit::AddName(b"/a"), Shape::Names(1)),
     (Edit::DropName(b"/a"), Shape::Names(0)),
+];
+
+/// Changes of a number of two paths.
+const OF_COUNT: [(Edit, Shape); 4] = [
+    (Edit::AddLink, Shape::Count(3)),
+    (Edit::SubLink, Shape::Gone),
+    (Edit::Raise(7), Shape::Count(2)),
+    (Edit::Remove, Shape::Gone),
 ];
 
 /// Edits of the last region of a file that had none, and what its summary is then.
@@ -112,6 +125,8 @@ fn delta(alloc: Global, edit: Edit) -> Result<Delta, Fail> {
         Edit::PutLast(n) => Ok(Delta::Put(Value::Last(n))),
         Edit::AddName(path) => Ok(Delta::DirAdd(name(alloc, path)?)),
         Edit::DropName(path) => Ok(Delta::DirDel(name(alloc, path)?)),
+        Edit::AddLink => Ok(Delta::LinkAdd),
+        Edit::SubLink => Ok(Delta::LinkSub),
         Edit::Remove => Ok(Delta::Remove),
     }
 }
@@ -127,6 +142,7 @@ fn is_of(value: Option<&Value>, shape: Shape) -> bool {
         (None, Shape::Gone) => true,
         (Some(Value::Names(names)), Shape::Names(count)) => names.count() == count,
         (Some(Value::Last(n)), Shape::Last(last)) => *n == last,
+        (Some(Value::Count(n)), Shape::Count(count)) => *n == count,
         (Some(Value::Region(v)), Shape::Region(end, base, entries)) => {
             is_region(v, (end, base, entries))
         }
@@ -244,6 +260,20 @@ fn missing_values_change_as_asked(rt: HostRuntime) -> Result<(), Fail> {
 #[test]
 fn other_values_change_as_asked(rt: HostRuntime) -> Result<(), Fail> {
     assert!(rt; makes_all(rt.alloc(), Some(&Value::Last(5)), &OF_LAST)?);
+    Ok(())
+}
+
+#[test]
+fn numbers_of_paths_change_as_asked(rt: HostRuntime) -> Result<(), Fail> {
+    let alloc = rt.alloc();
+    let fewer = makes(
+        alloc,
+        Some(&Value::Count(3)),
+        Edit::SubLink,
+        true,
+        Shape::Count(2),
+    )?;
+    assert!(rt; fewer && makes_all(alloc, Some(&Value::Count(2)), &OF_COUNT)?);
     Ok(())
 }
 
@@ -372,6 +402,7 @@ fn put_keys(alloc: Global, keys: &mut Vec<Key>) -> Result<(), Fail> {
     keys.push(Key::Dir(Path::parse(alloc, b"/")?))?;
     keys.push(Key::Inode(inode()))?;
     keys.push(Key::Region(inode(), 3))?;
+    keys.push(Key::Links(inode()))?;
     Ok(())
 }
 
@@ -380,14 +411,14 @@ fn stands_before(alloc: Global, key: &Key, next: &Key) -> Result<bool, Fail> {
     Ok(key < next && key.copy(alloc)? == *key)
 }
 
-/// Whether each of the four keys stands before the next one.
+/// Whether each of the five keys stands before the next one.
 fn are_in_order(alloc: Global, keys: &[Key]) -> Result<bool, Fail> {
     for pair in keys.windows(2) {
         if !stands_before(alloc, &pair[0], &pair[1])? {
             return Ok(false);
         }
     }
-    Ok(keys.len() == 4)
+    Ok(keys.len() == 5)
 }
 
 /// Whether keys of each kind stand in order.

@@ -8,6 +8,7 @@ use wtf_rows::clients::CLIENTS;
 use wtf_rows::examples::EXAMPLES;
 use wtf_rows::files::FILES;
 use wtf_rows::jobs::{JOBS, MORE_JOBS};
+use wtf_rows::links::LINKS;
 use wtf_rows::row::{DEFAULTS, Row, Run, Start};
 use wtf_rows::scans::{FAILED_SAVE, SCANS};
 use wtf_rows::slices::SLICES;
@@ -84,6 +85,12 @@ fn clients_are_as_the_rows_say(rt: HostRuntime) -> Result<(), Fail> {
 #[test]
 fn slices_are_as_the_rows_say(rt: HostRuntime) -> Result<(), Fail> {
     assert_eq!(rt; first_failed_run(rt.alloc(), &SLICES)?, NONE);
+    Ok(())
+}
+
+#[test]
+fn links_are_as_the_rows_say(rt: HostRuntime) -> Result<(), Fail> {
+    assert_eq!(rt; first_failed_run(rt.alloc(), &LINKS)?, NONE);
     Ok(())
 }
 

@@ -12,9 +12,9 @@ use wtf_trial::texts::EMPTY_IMAGE;
 use wtf_values::{Key, RegionValue, Value};
 
 /// The image of the root and a file in it.
-const FILE_IMAGE: [u8; 106] = [
+pub(crate) const FILE_IMAGE: [u8; 106] = [
     // The magic; 1 server, 1 replica, regions of 64 bytes; 3 installs, and the next transaction is 2.
-    0x57, 0x54, 0x46, 0x49, 0x4d, 0x47, 0x30, 0x31, 1, 1, 0, 0, 0, 64, 0, 0, 0, 0, 0, 0, 0, 3, 0,
+    0x57, 0x54, 0x46, 0x49, 0x4d, 0x47, 0x30, 0x32, 1, 1, 0, 0, 0, 64, 0, 0, 0, 0, 0, 0, 0, 3, 0,
     0, 0, 0, 0, 0, 0, 2,
     // Two paths: `/`, and `/a`, a file whose inode follows: that of call 2 in transaction 1.
     0, 0, 0, 2, 0, 1, 0x2f, 0, 0, 2, 0x2f, 0x61, 1, 0, 0, 0, 0, 0, 0, 0, 1, 0, 0, 0, 2,
@@ -28,7 +28,7 @@ const FILE_IMAGE: [u8; 106] = [
 /// The same file where there are two servers, and each of them has a copy of its 6 bytes.
 const COPIED_IMAGE: [u8; 116] = [
     // Two servers and two replicas.
-    0x57, 0x54, 0x46, 0x49, 0x4d, 0x47, 0x30, 0x31, 2, 2, 0, 0, 0, 64, 0, 0, 0, 0, 0, 0, 0, 3, 0,
+    0x57, 0x54, 0x46, 0x49, 0x4d, 0x47, 0x30, 0x32, 2, 2, 0, 0, 0, 64, 0, 0, 0, 0, 0, 0, 0, 3, 0,
     0, 0, 0, 0, 0, 0, 2, 0, 0, 0, 2, 0, 1, 0x2f, 0, 0, 2, 0x2f, 0x61, 1, 0, 0, 0, 0, 0, 0, 0, 1, 0,
     0, 0, 2, 0, 0, 0, 1, 0, 0, 0, 0, 0, 0, 0, 1, 0, 0, 0, 2,
     // Two pointers: to server 0, file 0, and to server 1, file 0, both from offset 0 on.
@@ -38,7 +38,7 @@ const COPIED_IMAGE: [u8; 116] = [
 
 /// The first with another region 0: up to 8, over the first 5 bytes of a list that lies in a slice, one entry.
 pub(crate) const SPILLED_IMAGE: [u8; 125] = [
-    0x57, 0x54, 0x46, 0x49, 0x4d, 0x47, 0x30, 0x31, 1, 1, 0, 0, 0, 64, 0, 0, 0, 0, 0, 0, 0, 3, 0,
+    0x57, 0x54, 0x46, 0x49, 0x4d, 0x47, 0x30, 0x32, 1, 1, 0, 0, 0, 64, 0, 0, 0, 0, 0, 0, 0, 3, 0,
     0, 0, 0, 0, 0, 0, 2, 0, 0, 0, 2, 0, 1, 0x2f, 0, 0, 2, 0x2f, 0x61, 1, 0, 0, 0, 0, 0, 0, 0, 1, 0,
     0, 0, 2, 0, 0, 0, 1, 0, 0, 0, 0, 0, 0, 0, 1, 0, 0, 0, 2,
     // Its last region, one region, its number, and its end.
@@ -60,13 +60,13 @@ const NO_PARENT: [u8; 19] = [
 
 /// An image, what the store of server 0 holds, and what is loaded: the servers, the replicas, the size of a region, the
 /// next transaction, and the number of installs.
-struct Loads {
-    image: &'static [u8],
-    stored: &'static [u8],
-    numbers: (u8, u8, u32, u64, u64),
+pub(crate) struct Loads {
+    pub(crate) image: &'static [u8],
+    pub(crate) stored: &'static [u8],
+    pub(crate) numbers: (u8, u8, u32, u64, u64),
 }
 
-const LOADED: [Loads; 3] = [
+pub(crate) const LOADED: [Loads; 3] = [
     Loads {
         image: EMPTY_IMAGE,
         stored: b"",
@@ -106,7 +106,7 @@ const SPOILED: [(usize, u8, Option<LoadError>); 12] = [
     (8, 0, Some(LoadError::BadSettings)),
 ];
 
-fn joined(alloc: Global, front: &[u8], back: &[u8]) -> Result<Vec<u8>, Fail> {
+pub(crate) fn joined(alloc: Global, front: &[u8], back: &[u8]) -> Result<Vec<u8>, Fail> {
     let mut out = front.to_vec(alloc)?;
     out.extend_from_slice(back)?;
     Ok(out)
@@ -129,13 +129,17 @@ fn load_over(alloc: Global, image: &[u8], shelf: &Shelf<MemStore>) -> Result<Loa
     load(alloc, image, shelf)
 }
 
-fn loaded(alloc: Global, image: &[u8], stored: &[u8]) -> Result<Loaded, Fail> {
+pub(crate) fn loaded(alloc: Global, image: &[u8], stored: &[u8]) -> Result<Loaded, Fail> {
     let shelf = holding(alloc, stored)?;
     Ok(load_over(alloc, image, &shelf)?)
 }
 
 /// Why an image is not loaded.
-fn refusal(alloc: Global, image: &[u8], stored: &[u8]) -> Result<Option<LoadError>, Fail> {
+pub(crate) fn refusal(
+    alloc: Global,
+    image: &[u8],
+    stored: &[u8],
+) -> Result<Option<LoadError>, Fail> {
     let shelf = holding(alloc, stored)?;
     Ok(load_over(alloc, image, &shelf).err())
 }
@@ -146,13 +150,13 @@ fn early_refusal(alloc: Global, image: &[u8]) -> Option<LoadError> {
 }
 
 /// Whether what was loaded is saved as this image.
-fn is_saved_as(alloc: Global, loaded: &Loaded, image: &[u8]) -> Result<bool, Fail> {
+pub(crate) fn is_saved_as(alloc: Global, loaded: &Loaded, image: &[u8]) -> Result<bool, Fail> {
     let saved = save(alloc, &loaded.kv, loaded.settings, loaded.next_tx)?;
     Ok(saved.as_slice() == image)
 }
 
 /// The settings and the numbers that were loaded.
-fn numbers_of(loaded: &Loaded) -> (u8, u8, u32, u64, u64) {
+pub(crate) fn numbers_of(loaded: &Loaded) -> (u8, u8, u32, u64, u64) {
     let settings = loaded.settings;
     (
         settings.servers,

@@ -29,3 +29,5 @@ mod scattered;
 mod spilled;
 #[cfg(test)]
 mod told;
+#[cfg(test)]
+mod versions;

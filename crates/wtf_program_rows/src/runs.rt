@@ -8,6 +8,7 @@ use wtf_rows::clients::CLIENTS;
 use wtf_rows::examples::EXAMPLES;
 use wtf_rows::files::{FILES, LONG_FILE};
 use wtf_rows::jobs::{JOBS, MORE_JOBS};
+use wtf_rows::links::LINKS;
 use wtf_rows::row::DEFAULTS;
 use wtf_rows::scans::SCANS;
 use wtf_rows::slices::SLICES;
@@ -228,6 +229,11 @@ fn more_rows_are_answered(rt: HostRuntime) -> Result<(), Fail> {
 #[test]
 fn further_rows_are_answered(rt: HostRuntime) -> Result<(), Fail> {
     check_rows(rt.alloc(), &SLICES)
+}
+
+#[test]
+fn rows_of_links_are_answered(rt: HostRuntime) -> Result<(), Fail> {
+    check_rows(rt.alloc(), &LINKS)
 }
 
 #[test]

@@ -3,7 +3,7 @@
 use crate::row::{DEFAULTS, Row, Run};
 
 /// Each script of `examples/`.
-pub const EXAMPLES: [Run; 9] = [
+pub const EXAMPLES: [Run; 10] = [
     Run {
         row: Row {
             name: "a first script",
@@ -272,6 +272,38 @@ sys dump /in => data x:34306464323062623330636331306161
 ",
         },
         stored: 32,
+        status: 0,
+    },
+    Run {
+        row: Row {
+            name: "one file under two paths, and a count that others change",
+            start: DEFAULTS,
+            text: "",
+            lines: "c0 begin => begun 0
+c0 create /draft => ok
+c0 open f0 /draft => ok
+c0 write f0 t:one => ok
+c0 link /draft /final => ok
+c0 stat /final => file 3 links 2
+c0 try => committed 1
+c0 begin => begun 1
+c0 open f0 /final => ok
+c0 write f0 t:two => ok
+c0 unlink /final => refused busy
+c0 unlink /draft => ok
+c0 stat /final => file 3
+c0 try => committed 2
+sys tree => tree d:/ f:/final:3
+sys dump /final => data x:74776f
+c0 begin => begun 2
+c0 stat /final => file 3
+c1 begin => begun 2
+c1 link /final /copy => ok
+c1 try => committed 3
+c0 commit => aborted 1 file 3 links 2
+",
+        },
+        stored: 12,
         status: 0,
     },
 ];

@@ -8,6 +8,7 @@ pub mod clients;
 pub mod examples;
 pub mod files;
 pub mod jobs;
+pub mod links;
 pub mod row;
 pub mod scans;
 pub mod slices;
