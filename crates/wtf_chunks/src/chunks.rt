@@ -92,6 +92,10 @@ impl<T: Copy + Drop> Chunks<T> {
         if self.last.len() >= CHUNK {
             seal(self.alloc, &mut self.sealed, &mut self.last, &[])?;
         }
+        if self.last.is_empty() {
+            // Many lists keep one item.
+            self.last.reserve_exact(1)?;
+        }
         self.last.push(item)?;
         self.count = count;
         Ok(())

@@ -1,7 +1,8 @@
 //! What a list keeps: its entries, and the runs that show what they show.
 
-ghost use Rattle.std.specs.Prelude.{◌≡◌, ℕ, ◌<◌, ◌≤◌, ◌++◌, [], ◌∷◌, length, Some, OnOk, OnErr, IfOk, IsTrue, slice_get};
+ghost use Rattle.std.specs.Prelude.{◌≡◌, ℕ, ◌<◌, ◌≤◌, ◌++◌, [], ◌∷◌, length, vec_len, Some, OnOk, OnErr, IfOk, IsTrue, slice_get};
 ghost use Rattle.std.specs.Bool.{OnFalse};
+ghost use Rattle.std.specs.Vec.{vec_capacity};
 ghost use Rattle.wtf_overlay.specs.Clips.{Within};
 ghost use Rattle.wtf_overlay.specs.Runs.{IsRun, SameWithin};
 ghost use Rattle.wtf_overlay.specs.Edges.{EdgesIn, is_edge};
@@ -111,7 +112,7 @@ impl Layers {
         ensures err { OnErr result (self.new ≡ self.old) }
     {
         self.make_room()?;
-        self.tail.reserve(1)?;
+        room_for_one(&mut self.tail)?;
         self.entries.push(e)?;
         let _room = self.tail.push(e);
         self.reach = self.reach.max(e.end());
@@ -182,6 +183,19 @@ impl Layers {
         let all = shown(newest, self.runs.as_slice(), from, to)?;
         Ok(all)
     }
+}
+
+/// Makes room for a further entry of a tail: for that one alone at first, since many lists keep one.
+fn room_for_one(tail: &mut Vec<Entry>) -> Result<(), OutOfMemory>
+    ensures same { tail.new.items ≡ tail.old.items }
+    ensures room { OnOk result (vec_len tail.new < vec_capacity tail.new) }
+{
+    if tail.is_empty() {
+        tail.reserve_exact(1)?;
+    } else {
+        tail.reserve(1)?;
+    }
+    Ok(())
 }
 
 /// The entries in chunks.
