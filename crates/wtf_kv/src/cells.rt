@@ -91,7 +91,7 @@ pub(crate) fn seed_cell<K: StoreKey, C: Drop>(
         (versions_in K.cmp (listed cells.old.entries) q)) }
     ensures err { OnErr result (cells.new.entries ≡ cells.old.entries) }
 {
-    let mut versions = Vec::new(alloc);
+    let mut versions = Vec::with_capacity(alloc, 1)?;
     versions.push((number, Some(value)))?;
     match cells.insert(key, versions) {
         Ok(_) => Ok(()),

@@ -458,7 +458,7 @@ fn add_cell<K: StoreKey, C: Drop>(
         staged number value (versions_in K.cmp (listed cells.old.entries) q)) }
     ensures err { OnErr result (cells.new.entries ≡ cells.old.entries) }
 {
-    let mut versions = Vec::new(alloc);
+    let mut versions = Vec::with_capacity(alloc, 1)?;
     stage_in(&mut versions, number, value)?;
     let own = key.copy(alloc)?;
     match cells.insert(own, versions) {

@@ -108,14 +108,8 @@ fn eight(text: &[u8], at: usize) -> u64
     requires { at + 8 ≤ length text.now }
     ensures { result ≡ big_endian 0 (take 8 (drop at text.now)) }
 {
-    u64::from_be_bytes([
-        text[at],
-        text[at + 1],
-        text[at + 2],
-        text[at + 3],
-        text[at + 4],
-        text[at + 5],
-        text[at + 6],
-        text[at + 7],
-    ])
+    match text[at..].first_chunk::<8>() {
+        Some(bytes) => u64::from_be_bytes(*bytes),
+        None => 0,
+    }
 }

@@ -18,4 +18,4 @@ returns-in-Ok-clause-ok g c = λ q at.
     let own : c.in_ok-own.own ≡ c.args.key.now = c.in_ok-own.ensures in
     chosen (is_at (order c.in_ok-own.own) q) _ (make (versions_in order (listed old) q)) (versions_in order (listed old) q) (ap (λ k. is_at (order k) q) own ∙ at)
     (versions_updated order g.met.K.StoreKey.exact old _ c.in_ok-own.own c.stage_in.new.versions make c.in-Ok.ensures.updates.0
-    (c.in_ok-stage_in.ensures.ok ∙ ap make (c.new-versions.ensures.items ∙ sym (ap (versions_in order (listed old)) own ∙ c.requires.none))) q)
+    (c.in_ok-stage_in.ensures.ok ∙ ap make (c.in_ok-versions.ensures.items ∙ sym (ap (versions_in order (listed old)) own ∙ c.requires.none))) q)
