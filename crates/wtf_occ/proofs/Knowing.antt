@@ -1,8 +1,9 @@
 -- How what is known of values follows the changes.
-use Rattle.std.proofs.Common.{◌≡◌, Bool, true, false, cond, List, [], ◌∷◌, ◌++◌, Option, None, Some, refl, sym, ap, subst, ◌∙◌, ⊎_elim}
+use Rattle.std.proofs.Common.{◌≡◌, Bool, true, false, cond, List, [], ◌∷◌, ◌++◌, map, Option, None, Some, refl, sym, ap, subst, ◌∙◌, ⊎_elim, append-nil, append_assoc}
 use Rattle.std.specs.declared.cmp.Ordering.{Ordering}
 use Rattle.std.specs.declared.cmp.Ordering.TheVariants.{Equal}
 use Rattle.std.specs.Map.{lookup}
+use Rattle.std.specs.Option.{unwrap_or}
 use Rattle.std.specs.BTreeMap.{is_at}
 use Rattle.std.specs.Cmp.{Equal-is}
 use Rattle.std.proofs.lemmas.Bool.{cases_Bool}
@@ -101,6 +102,21 @@ module _ {K X D : Type 0} (order : K → K → Ordering) (Is : List (Change K D)
     }
     AreKnown-back (Cut from to) none known = AreKnown-nothing cs fs none
 
+  -- deltas of k come, where what is known of it holds after any changes
+  module _ (stays : StaysKnown) (exact : (x y : K) → order x y ≡ Equal → x ≡ y) (k : K) (es : List (K × X)) where
+    pub AreKnown-free : ((cs : List (Change K D)) → IsKnown order Is cs k (lookup (is_at (order k)) es)) → (ds : List D) (cs : List (Change K D))
+        → AreKnown order Is cs es → AreKnown order Is (cs ++ map (Delta k) ds) es
+    AreKnown-free free [] cs known = subst (λ l. AreKnown order Is l es) (sym (append-nil cs)) known
+    AreKnown-free free (d ∷ ds) cs known =
+        let more = cs ++ Delta k d ∷ [] in
+        subst (λ l. AreKnown order Is l es) (append_assoc cs (Delta k d ∷ []) (map (Delta k) ds))
+        (AreKnown-free free ds more (record {
+          each = λ q. ⊎_elim
+              (λ at. subst (λ x. IsKnown order Is more x (lookup (is_at (order x)) es)) (exact k q ((Equal-is (order k q)).0 at)) (free more))
+              (λ apart. on stays exact cs es es k q d (lookup (is_at (order q)) es) apart (known.each q))
+              (cases_Bool (is_at (order k) q));
+        }))
+
 module _ {K C D : Type 0} (order : K → K → Ordering) (outcome : Option C → D → Applied C) where
   pub after_push : (cs : List (Change K D)) (c : Change K D) (q : K) (now : Option C) → after_changes order outcome (cs ++ c ∷ []) q now ≡ after_change order outcome c q (after_changes order outcome cs q now)
   after_push [] c q now = refl
@@ -145,3 +161,9 @@ module _ {K C D : Type 0} (order : K → K → Ordering) (outcome : Option C →
         → IsSummed order outcome summary cs k old → IsSummed order outcome summary (cs ++ c ∷ []) k w
     summed_followed cs c k old w before follows was = λ now is.
         follows (after_changes order outcome cs k now) (was now (sym before ∙ is)) ∙ ap summary (sym (after_push cs c k now))
+
+    -- where there is no summary in the place of k, what is known of it holds after any changes
+    pub placed_free : (k : K) (o : Option (Option (Summed S))) → unwrap_or o None ≡ None → (cs : List (Change K D)) → IsKnown order (IsPlaced order outcome summary) cs k o
+    placed_free k None none cs = tt
+    placed_free k (Some None) none cs = tt
+    placed_free k (Some (Some s)) none cs = absurd (cc)

@@ -1,6 +1,7 @@
 pub mod AttemptLaws
 mod Agree
 mod Growing
-mod Indexed
+pub mod Indexed
 mod Noted
+mod Several
 mod Knowing

@@ -1,5 +1,5 @@
 -- Where the changes of a key stand in a list of changes.
-use Rattle.std.specs.Prelude.{◌≡◌, ℕ, ◌+◌, ◌-◌, Bool, true, false, cond, List, [], ◌∷◌, map, Option, nat_le, nat_lt, length, take, drop}
+use Rattle.std.specs.Prelude.{◌≡◌, ℕ, zero, suc, ◌+◌, ◌-◌, Bool, true, false, cond, List, [], ◌∷◌, map, Option, nat_le, nat_lt, length, take, drop}
 use Rattle.std.specs.Option.{unwrap_or}
 use Rattle.std.specs.List.{list_any}
 use Rattle.std.specs.declared.cmp.Ordering.{Ordering}
@@ -15,6 +15,11 @@ use Rattle.wtf_kv.specs.Edits.{is_between, after_changes}
 abbrev pub positions_from : {X : Type 0} → ℕ → (X → Bool) → List X → List ℕ
 positions_from i p [] = []
 positions_from i p (x ∷ xs) = cond (p x) (i ∷ positions_from (i + 1) p xs) (positions_from (i + 1) p xs)
+
+-- n positions from i on
+abbrev pub upto : ℕ → ℕ → List ℕ
+upto i zero = []
+upto i (suc n) = i ∷ upto (i + 1) n
 
 -- the positions in a map, as they are seen
 abbrev pub listed_positions : {K A : Type 0} → List (K × Vec ℕ A) → List (K × List ℕ)

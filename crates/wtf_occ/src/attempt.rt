@@ -1,11 +1,11 @@
 //! An attempt: its base, the keys that it has recorded, and its changes.
 
-ghost use Rattle.std.specs.Prelude.{◌≡◌, ℕ, Some, ◌^◌, ◌<◌, ◌≤◌, ◌∷◌, [], ◌++◌, IsTrue, OnErr, OnOk, IfOk, IfSome, IfNone, length, take};
+ghost use Rattle.std.specs.Prelude.{◌≡◌, ℕ, Option, Some, ◌^◌, ◌<◌, ◌≤◌, ◌∷◌, [], ◌++◌, IsTrue, OnErr, OnOk, IfOk, IfSome, IfNone, length, map, take};
 ghost use Rattle.std.specs.Option.{option_copied};
 ghost use Rattle.wtf_kv.specs.Stores.{map_at, version_of, is_pinned};
-ghost use Rattle.wtf_kv.specs.Edits.{Fits};
+ghost use Rattle.wtf_kv.specs.Edits.{Fits, after_changes};
 ghost use Rattle.wtf_occ.specs.Attempts.{Attempted, Grows, map_seen};
-ghost use Rattle.wtf_occ.specs.Positions.{has_delta};
+ghost use Rattle.wtf_occ.specs.Positions.{AllBelow, after_positions, has_delta};
 ghost use Rattle.wtf_occ.specs.Tries.{IsTried, Stays, first_moved};
 
 use crate::Tried;
@@ -117,6 +117,24 @@ impl<K: StoreKey, C: Summarized> Attempt<K, C> {
         self.changes.look(kv, self.base, key)
     }
 
+    /// The changes, in order.
+    pub fn changes(&self) -> &[Change<K, C::Delta>]
+        ensures { result.now ≡ self.now.changes }
+    {
+        self.changes.changes().as_slice()
+    }
+
+    /// Where the deltas of a key stand among the changes, if these alone make its value of that at the base.
+    /// `None` where some change is a cut.
+    pub fn deltas_of(&self, key: &K) -> Option<&[usize]>
+        ensures below { IfSome result (λ at. AllBelow (length self.now.changes) at.now) }
+        ensures value { IfSome result (λ at. (now : Option C) →
+            after_positions K.cmp C.outcome self.now.changes key.now 0 at.now now ≡
+            after_changes K.cmp C.outcome self.now.changes key.now now) }
+    {
+        self.changes.deltas_of(key)
+    }
+
     /// Makes later looks at a key cost no walk over the attempt's changes of it, up to the next cut. It
     /// takes the time of a `peek`, and none where the key is settled or the attempt has no change of it.
     pub fn settle(&mut self, kv: &Kv<K, C>, key: &K) -> Result<(), OutOfMemory>
@@ -169,6 +187,22 @@ impl<K: StoreKey, C: Summarized> Attempt<K, C> {
         ensures grows { Grows self.old self.new }
     {
         self.changes.delta(key, d)
+    }
+
+    /// Adds changes of a key's value, in order: so many cost one search among the changed keys, where the
+    /// key is not settled. Want of memory leaves the attempt as it was.
+    pub fn deltas(&mut self, key: &K, ds: Vec<C::Delta>) -> Result<(), OutOfMemory>
+        ensures ok { OnOk result (self.new ≡ record self.old
+            { changes = self.old.changes ++ map (Change.Delta key.now) ds.items }) }
+        ensures err { OnErr result (self.new ≡ self.old) }
+        ensures grows { Grows self.old self.new }
+    {
+        self.changes.deltas(key, ds)
+    }
+
+    /// Where the attempt takes its memory.
+    pub fn alloc(&self) -> Global {
+        self.alloc
     }
 
     /// Adds the removal of the keys from `from` up to and with `to` that have a value. Want of memory

@@ -104,6 +104,19 @@ fn make_place<K: StoreKey, C: Summarized>(
     let Change::Delta(key, _) = change else {
         return;
     };
+    place_for::<K, C>(alloc, known, key);
+}
+
+/// Makes a place for the summary of a key, where there is memory for one. What is known of it is forgotten.
+pub(crate) fn place_for<K: StoreKey, C: Summarized>(
+    alloc: Global,
+    known: &mut KnownSummaries<K, C::Summary>,
+    key: &K,
+)
+    ensures { (cs : List (Change K C.Delta)) →
+        AreSummed K.cmp C.outcome C.summary_of cs known.old.entries →
+        AreSummed K.cmp C.outcome C.summary_of cs known.new.entries }
+{
     let Ok(own) = key.copy(alloc) else {
         return;
     };

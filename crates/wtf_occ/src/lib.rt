@@ -8,7 +8,7 @@
 //! answer the same, or what is told of it, and record nothing: what rests on them is the caller's to record.
 //! What is known of a key with many changes is kept (`settle`), so that later looks cost no walk over them.
 //!
-//! Changing. `delta` and `cut_range` add a change, and read nothing. An attempt only grows, but for `rewind`,
+//! Changing. `delta`, `deltas` and `cut_range` add changes, and read nothing. An attempt only grows, but for `rewind`,
 //! which brings back a marked point of it exactly. Want of memory leaves it as it was in each of these.
 //!
 //! Installing. `install` finds the key in the way: the first recorded key that has a version above the base,
@@ -22,6 +22,7 @@
 mod attempt;
 pub mod examples;
 mod known;
+mod runs;
 mod tried;
 mod values;
 mod write_set;

@@ -2,16 +2,18 @@
 //! walks the changes of its key and the cuts by it, and not all changes. Where the key is settled, it walks
 //! none.
 
-ghost use Rattle.std.specs.Prelude.{◌≡◌, Option, ◌-◌, ◌<◌, ◌≤◌, ◌∷◌, [], ◌++◌, IsTrue, IfOk, IfSome, IfNone, OnErr, OnOk, false, cond, length, take};
+ghost use Rattle.std.specs.Prelude.{◌≡◌, Option, ◌-◌, ◌<◌, ◌≤◌, ◌∷◌, [], ◌++◌, IsTrue, IfOk, IfSome, IfNone, OnErr, OnOk, false, cond, length, map, take};
 ghost use Rattle.std.specs.BTreeMap.{is_at};
 ghost use Rattle.std.specs.Option.{option_copied};
 ghost use Rattle.wtf_kv.specs.Edits.{over, after_changes};
 ghost use Rattle.wtf_kv.specs.Stores.{map_at, is_pinned};
-ghost use Rattle.wtf_occ.specs.Positions.{listed_positions, positions_of, front, is_cut, is_delta_of, has_delta};
+ghost use Rattle.wtf_occ.specs.Positions.{AllBelow, after_positions, listed_positions, positions_of, front, is_cut, is_delta_of, has_delta};
 
 use crate::known::{
-    Known, KnownSummaries, KnownValues, Summed, are_same, copied, follow, follow_place, unlearn,
+    Known, KnownSummaries, KnownValues, Summed, are_same, copied, follow, follow_place, place_for,
+    unlearn,
 };
+use crate::runs::{add_all, has_summary, note_added};
 use crate::values::{past_cuts, summarized, summary_after, value_after, value_before};
 use std::alloc::Global;
 use std::collections::BTreeMap;
@@ -20,7 +22,7 @@ use wtf_base::OutOfMemory;
 use wtf_kv::{Cell, Change, Changes, Kv, StoreKey, Summarized};
 
 /// The positions of each key's deltas in a list of changes, ascending.
-type Positions<K> = BTreeMap<K, Vec<usize>>;
+pub(crate) type Positions<K> = BTreeMap<K, Vec<usize>>;
 
 /// So many looks at parts of a value cost no more than the application of one change.
 const LOOKS: usize = 128;
@@ -107,6 +109,19 @@ impl<K: StoreKey, C: Summarized> WriteSet<K, C> {
         }
         let known = self.known_from(at_base, key)?;
         Some(known.after.as_ref())
+    }
+
+    /// The positions of a key's deltas, where these alone make its value: no change is a cut then.
+    pub(crate) fn deltas_of(&self, key: &K) -> Option<&[usize]>
+        ensures below { IfSome result (λ at. AllBelow (length self.now) at.now) }
+        ensures value { IfSome result (λ at. (now : Option C) →
+            after_positions K.cmp C.outcome self.now key.now 0 at.now now ≡
+            after_changes K.cmp C.outcome self.now key.now now) }
+    {
+        if !self.cuts.is_empty() {
+            return None;
+        }
+        Some(positions_in(&self.positions, key))
     }
 
     /// Whether one of the changes is a delta of this key.
@@ -257,6 +272,64 @@ impl<K: StoreKey, C: Summarized> WriteSet<K, C> {
         follow(self.alloc, &mut self.known, change);
         follow_place::<K, C>(self.alloc, &mut self.summaries, change, again);
         Ok(())
+    }
+
+    /// Adds changes of a key's value, in order. Want of memory leaves the list as it was.
+    pub(crate) fn deltas(&mut self, key: &K, ds: Vec<C::Delta>) -> Result<(), OutOfMemory>
+        ensures ok { OnOk result (self.new ≡ self.old ++ map (Change.Delta key.now) ds.items) }
+        ensures err { OnErr result (self.new ≡ self.old) }
+    {
+        match self.added(key, ds)? {
+            Some(left) => self.each_delta(key, left),
+            None => Ok(()),
+        }
+    }
+
+    /// Adds changes of a key's value at once. They are left, and nothing is changed, where what is known of
+    /// the key has to follow each of them, and where they are too few.
+    fn added(&mut self, key: &K, ds: Vec<C::Delta>) -> Result<Option<Vec<C::Delta>>, OutOfMemory>
+        ensures added { IfOk result (λ left. IfNone left
+            (self.new ≡ self.old ++ map (Change.Delta key.now) ds.items)) }
+        ensures left { IfOk result (λ left. IfSome left
+            (λ same. (same.items ≡ ds.items) × (self.new ≡ self.old))) }
+        ensures err { OnErr result (self.new ≡ self.old) }
+    {
+        if ds.len() < 2 || self.known.contains_key(key) || has_summary(&self.summaries, key) {
+            return Ok(Some(ds));
+        }
+        let from = self.changes.len();
+        add_all(self.alloc, &mut self.changes, key, ds)?;
+        let to = self.changes.len();
+        if let Err(why) = note_added(self.alloc, &mut self.positions, key, from, to) {
+            self.changes.shorten(from);
+            return Err(why);
+        }
+        place_for::<K, C>(self.alloc, &mut self.summaries, key);
+        Ok(None)
+    }
+
+    /// The same one by one, where what is known of the key follows each.
+    fn each_delta(&mut self, key: &K, ds: Vec<C::Delta>) -> Result<(), OutOfMemory>
+        ensures ok { OnOk result (self.new ≡ self.old ++ map (Change.Delta key.now) ds.items) }
+        ensures err { OnErr result (self.new ≡ self.old) }
+    {
+        let from = self.len();
+        for d in ds {
+            if let Err(why) = self.delta_at(key, d) {
+                self.shorten(from);
+                return Err(why);
+            }
+        }
+        Ok(())
+    }
+
+    /// Adds a change of the value of a key that is copied.
+    fn delta_at(&mut self, key: &K, d: C::Delta) -> Result<(), OutOfMemory>
+        ensures ok { OnOk result (self.new ≡ self.old ++ Change.Delta key.now d ∷ []) }
+        ensures err { OnErr result (self.new ≡ self.old) }
+    {
+        let own = key.copy(self.alloc)?;
+        self.delta(own, d)
     }
 
     /// Adds the removal of the keys from `from` up to and with `to` that have a value. Want of memory
