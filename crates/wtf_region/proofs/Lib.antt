@@ -6,6 +6,7 @@ pub mod PieceEdits
 pub mod ShowLaws
 pub mod InsideLaws
 pub mod ListReads
+pub mod OwnLaws
 pub mod Remembering
 pub mod Recalling
 pub mod BaseLaws
@@ -13,3 +14,4 @@ mod SliceKeys
 mod RegionKeys
 mod Places
 mod Summed
+mod Held

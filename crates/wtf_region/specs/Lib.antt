@@ -2,10 +2,12 @@ pub mod Apart
 pub mod Cached
 pub mod Lending
 pub mod Inside
+pub mod Own
 pub mod Devs
 pub mod Bases
 pub mod Laid
 pub mod Reads
 pub mod Edited
+pub mod Holding
 pub mod Showing
 pub mod Called

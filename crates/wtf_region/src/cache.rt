@@ -14,8 +14,10 @@ use wtf_base::{InodeId, OutOfMemory, Slice};
 use wtf_overlay::Overlay;
 use wtf_ring::{Place, Ring};
 
-// How many places are remembered, and how many lists.
-const REMEMBERED: usize = 64;
+// How many lists are remembered, and how many places.
+const LISTS: usize = 64;
+
+const PLACES: usize = 4_096;
 
 /// A region of a file.
 #[derive(Clone, Copy, Debug, PartialEq, Eq, Hash)]
@@ -67,14 +69,15 @@ impl RegionCache {
         ensures places { IfOk result (λ c. c.places ≡ []) }
         ensures lists { IfOk result (λ c. c.lists ≡ []) }
     {
-        let Some(cap) = NonZeroUsize::new(REMEMBERED) else {
+        let (Some(lists), Some(places)) = (NonZeroUsize::new(LISTS), NonZeroUsize::new(PLACES))
+        else {
             return Err(OutOfMemory);
         };
-        let places = match LruCache::new(alloc, cap) {
+        let places = match LruCache::sparse(alloc, places) {
             Ok(places) => places,
             Err(_) => return Err(OutOfMemory),
         };
-        match LruCache::new(alloc, cap) {
+        match LruCache::new(alloc, lists) {
             Ok(lists) => Ok(RegionCache {
                 spare: None,
                 places,

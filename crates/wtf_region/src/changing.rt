@@ -1,6 +1,6 @@
 //! Pieces that are laid over a file, or added at its end.
 
-ghost use Rattle.std.specs.Prelude.{◌≡◌, ℕ, ◌+◌, ◌-◌, ◌*◌, ◌<◌, ◌≤◌, ◌^◌, min, true, false, IfOk, OnOk, IsTrue, []};
+ghost use Rattle.std.specs.Prelude.{◌≡◌, ℕ, ◌+◌, ◌-◌, ◌*◌, ◌<◌, ◌≤◌, ◌^◌, min, true, false, IfOk, OnOk, IsTrue, [], ◌∷◌, ◌++◌};
 ghost use Rattle.wtf_kv.specs.Stores.{is_pinned};
 ghost use Rattle.wtf_occ.specs.Attempts.{Grows};
 ghost use Rattle.wtf_overlay.specs.Origin.{part_origin, pieces_len};
@@ -8,13 +8,15 @@ ghost use Rattle.wtf_overlay.specs.Lengths.{HasLength};
 ghost use Rattle.wtf_model.specs.declared.limits.TheConstants.{MAX_REGIONS};
 ghost use Rattle.wtf_meta.specs.Maps.{seen};
 ghost use Rattle.wtf_meta.specs.Files.{FileView};
-ghost use Rattle.wtf_meta.specs.FileEdits.{file_of, Push, RaiseLast};
+ghost use Rattle.wtf_meta.specs.FileEdits.{file_of, edit_of, Push, RaiseLast};
+ghost use Rattle.wtf_region.specs.Holding.{held_over};
 ghost use Rattle.wtf_region.specs.Edited.{Edited, CoversPart, LaysPieces, LacksRoom, IsAdded, IsFileEnd};
 
 use crate::Added;
 use crate::ends::{FileEnd, file_end, record_last, record_length};
 use crate::part::part_at;
 use std::alloc::Global;
+use std::mem;
 use wtf_base::{InodeId, OutOfMemory, Settings};
 use wtf_kv::Kv;
 use wtf_meta::{Delta, Key, Pieces, Value};
@@ -37,10 +39,66 @@ fn part_of(piece: &Piece, off: u64, len: u32) -> Part
     }
 }
 
-/// Lays a piece over the regions of a file at an offset.
+/// Entries of one region that are to be laid.
+#[derive(Drop)]
+struct Held {
+    region: u16,
+    pushes: Vec<Delta>,
+}
+
+/// Lays entries that were held.
+fn lay(at: &mut Attempt<Key, Value>, inode: InodeId, held: Held) -> Result<(), OutOfMemory>
+    ensures ok { OnOk result (at.new ≡ held_over inode held at.old) }
+    ensures grows { Grows at.old at.new }
+{
+    let Held { region, pushes } = held;
+    at.deltas(&Key::Region(inode, region), pushes)
+}
+
+/// Holds entries of a region from now on. Those of another one that are held are laid.
+fn turn_to(
+    at: &mut Attempt<Key, Value>,
+    inode: InodeId,
+    held: &mut Held,
+    region: u16,
+) -> Result<(), OutOfMemory>
+    ensures region { OnOk result (held.new.region ≡ region) }
+    ensures ok { OnOk result (held_over inode held.new at.new ≡ held_over inode held.old at.old) }
+    ensures grows { Grows at.old at.new }
+{
+    if region == held.region {
+        return Ok(());
+    }
+    let pushes = Vec::new(at.alloc());
+    let full = mem::replace(held, Held { region, pushes });
+    lay(at, inode, full)
+}
+
+/// Holds one entry more. Those of another region that are held are laid.
+fn hold(
+    at: &mut Attempt<Key, Value>,
+    inode: InodeId,
+    held: &mut Held,
+    region: u16,
+    entry: Entry,
+) -> Result<(), OutOfMemory>
+    ensures ok { OnOk result (held_over inode held.new at.new ≡
+        record (held_over inode held.old at.old) {
+          changes =
+              (held_over inode held.old at.old).changes ++ edit_of inode (Push region entry) ∷ [];
+        }) }
+    ensures grows { Grows at.old at.new }
+{
+    turn_to(at, inode, held, region)?;
+    held.pushes.push(Delta::Push(entry))?;
+    Ok(())
+}
+
+/// Lays a piece over the regions of a file at an offset. Some of its entries may be held.
 fn put_piece(
     at: &mut Attempt<Key, Value>,
     inode: InodeId,
+    held: &mut Held,
     off: u64,
     piece: &Piece,
     size: u32,
@@ -49,15 +107,16 @@ fn put_piece(
     requires small { size < 2 ^ 32 - 1 }
     requires cap { off + piece.now.len ≤ MAX_REGIONS * size }
     ensures ok { OnOk result
-        (Edited inode [] (CoversPart size off inode piece.now piece.now.len) at.old at.new) }
+        (Edited inode [] (CoversPart size off inode piece.now piece.now.len)
+        (held_over inode held.old at.old) (held_over inode held.new at.new)) }
     ensures grows { Grows at.old at.new }
 {
     let mut done = 0;
     while done < piece.len {
         let part = part_at(off, piece.len, done, size);
-        let held = part_of(piece, done, part.len);
-        let entry = Entry::of(part.off, part.len, held);
-        at.delta(Key::Region(inode, part.region), Delta::Push(entry))?;
+        let within = part_of(piece, done, part.len);
+        let entry = Entry::of(part.off, part.len, within);
+        hold(at, inode, held, part.region, entry)?;
         done += part.len as u64;
     }
     Ok(())
@@ -79,10 +138,15 @@ pub fn put_pieces(
     ensures grows { Grows at.old at.new }
 {
     let mut done = 0;
+    let mut held = Held {
+        region: 0,
+        pushes: Vec::new(at.alloc()),
+    };
     for piece in pieces {
-        put_piece(at, inode, off + done, piece, settings.region)?;
+        put_piece(at, inode, &mut held, off + done, piece, settings.region)?;
         done += piece.len;
     }
+    lay(at, inode, held)?;
     if done > 0 {
         let last = (off + done - 1) / settings.region as u64;
         at.delta(Key::Inode(inode), Delta::RaiseLast(last as u16))?;

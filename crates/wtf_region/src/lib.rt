@@ -28,6 +28,7 @@ mod dev;
 mod ends;
 mod fetching;
 mod list;
+mod own;
 mod part;
 mod reading;
 mod store;

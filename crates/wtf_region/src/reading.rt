@@ -17,6 +17,7 @@ ghost use Rattle.wtf_region.specs.Showing.{OnlyRead};
 ghost use Rattle.wtf_region.specs.Edited.{Recorded};
 
 use crate::ends::{file_end, record_length, record_region};
+use crate::own::own_pieces;
 use crate::part::{RegionPart, part_at};
 use crate::{Dev, region_list};
 use std::alloc::Global;
@@ -113,51 +114,82 @@ fn hole(alloc: Global, len: u32) -> Result<Vec<Piece>, Fault>
     }
 }
 
-/// A part of the region that an attempt sees at a key as pieces; a hole where it is missing. Nothing is
-/// recorded. The value is copied only where it stands nowhere.
-fn seen_pieces<S: SliceStore>(
+/// A part of the region that an attempt sees at a key as pieces, where its value may stand nowhere. The
+/// attempt's few entries are laid over the list at the base, and else the value is made, and known then.
+fn made_pieces<S: SliceStore>(
     alloc: Global,
     dev: &mut Dev<'_, S>,
     kv: &Kv<Key, Value>,
-    at: &Attempt<Key, Value>,
+    at: &mut Attempt<Key, Value>,
     key: &Key,
     part: RegionPart,
 ) -> Result<Vec<Piece>, Fault>
     requires sound { IsSoundDev S.kind dev.old }
-    requires pinned { IsTrue (is_pinned kv.now at.now.base) }
+    requires pinned { IsTrue (is_pinned kv.now at.old.base) }
     requires inside { MaybeBytes (inside_of S.kind dev.old) any_slice
-        (region_of (seen kv.now at.now key.now)) }
+        (region_of (seen kv.now at.old key.now)) }
     requires some { 0 < part.len }
     ensures read { IfOk result (λ v. IsPartRead S.kind dev.old dev.new
-        (region_of (seen kv.now at.now key.now)) part.off part.len v.items) }
+        (region_of (seen kv.now at.old key.now)) part.off part.len v.items) }
     ensures fault { IfErr result (LeavesRegion S.kind dev.old dev.new
-        (region_of (seen kv.now at.now key.now))) }
+        (region_of (seen kv.now at.old key.now))) }
+    ensures same { at.new ≡ at.old }
     ensures reads { OnlyRead S.kind (between dev.old dev.new) }
     ensures dev { GoesOn S.kind dev.old dev.new [] }
 {
-    if let Some(value) = at.look(kv, key) {
-        return value_pieces(alloc, dev, region_in(value), part.off, part.len);
+    match own_pieces(alloc, kv, at, key, part) {
+        Ok(Some(pieces)) => return Ok(pieces),
+        Ok(None) => {}
+        Err(_) => return Err(Fault::Memory),
     }
-    let value = match at.peek(kv, key) {
+    let value = match settled(kv, at, key) {
         Ok(value) => value,
         Err(_) => return Err(Fault::Memory),
     };
     value_pieces(alloc, dev, region_in(value.as_ref()), part.off, part.len)
 }
 
-/// Records a region of a file. Later looks at it walk no changes of it then.
-fn record_settled(
+/// The value that an attempt sees at a key, which is known then.
+fn settled(
     kv: &Kv<Key, Value>,
     at: &mut Attempt<Key, Value>,
-    inode: InodeId,
-    r: u16,
-) -> Result<(), OutOfMemory>
+    key: &Key,
+) -> Result<Option<Value>, OutOfMemory>
     requires { IsTrue (is_pinned kv.now at.old.base) }
-    ensures recorded { OnOk result (Recorded inode (OfRegion r ∷ []) at.old at.new) }
-    ensures grows { Grows at.old at.new }
+    ensures value { IfOk result (λ value. value ≡ seen kv.now at.old key.now) }
+    ensures same { at.new ≡ at.old }
 {
-    at.settle(kv, &Key::Region(inode, r))?;
-    record_region(at, inode, r)
+    at.settle(kv, key)?;
+    at.peek(kv, key)
+}
+
+/// A part of the region that an attempt sees at a key as pieces; a hole where it is missing. Nothing is
+/// recorded. The value is copied only where it stands nowhere.
+fn seen_pieces<S: SliceStore>(
+    alloc: Global,
+    dev: &mut Dev<'_, S>,
+    kv: &Kv<Key, Value>,
+    at: &mut Attempt<Key, Value>,
+    key: &Key,
+    part: RegionPart,
+) -> Result<Vec<Piece>, Fault>
+    requires sound { IsSoundDev S.kind dev.old }
+    requires pinned { IsTrue (is_pinned kv.now at.old.base) }
+    requires inside { MaybeBytes (inside_of S.kind dev.old) any_slice
+        (region_of (seen kv.now at.old key.now)) }
+    requires some { 0 < part.len }
+    ensures read { IfOk result (λ v. IsPartRead S.kind dev.old dev.new
+        (region_of (seen kv.now at.old key.now)) part.off part.len v.items) }
+    ensures fault { IfErr result (LeavesRegion S.kind dev.old dev.new
+        (region_of (seen kv.now at.old key.now))) }
+    ensures same { at.new ≡ at.old }
+    ensures reads { OnlyRead S.kind (between dev.old dev.new) }
+    ensures dev { GoesOn S.kind dev.old dev.new [] }
+{
+    if let Some(value) = at.look(kv, key) {
+        return value_pieces(alloc, dev, region_in(value), part.off, part.len);
+    }
+    made_pieces(alloc, dev, kv, at, key, part)
 }
 
 /// A part of a region of a file as pieces; a hole where it is missing. The region is recorded.
@@ -182,7 +214,7 @@ fn region_pieces<S: SliceStore>(
     ensures reads { OnlyRead S.kind (between dev.old dev.new) }
     ensures dev { GoesOn S.kind dev.old dev.new [] }
 {
-    match record_settled(kv, at, inode, part.region) {
+    match record_region(at, inode, part.region) {
         Ok(()) => {}
         Err(_) => return Err(Fault::Memory),
     }

@@ -1,4 +1,5 @@
 use Rattle.std.proofs.Common.{◌≡◌, ℕ, ◌+◌, ◌*◌, ◌<◌, ◌≤◌, ◌++◌, [], ◌∷◌, List, arith, ap, subst}
+use Rattle.wtf_occ.proofs.AttemptLaws.{Grows-on}
 use Rattle.wtf_overlay.specs.declared.part.Piece.{Piece}
 use Rattle.wtf_meta.specs.Files.{file_len}
 use Rattle.wtf_meta.specs.FileEdits.{PushRel, edit_of}
@@ -36,3 +37,19 @@ returns-clause-added c v is =
     (λ none. c.if-len-eq0.false (omega (arith, none, c.bytes_of-len.ensures))) (omega (arith, is.off, full, c.bytes_of-len.ensures))
     (c.in_ok-record_length.ensures.recorded v is)
     (subst (λ (o : ℕ). Edited i [] (LaysPieces b o i ps) at c.put_pieces.new.at) off c.in_ok-put_pieces.ensures.ok)
+
+pub returns-in_err-delta-clause-grows : goal.returns-in_err-delta-clause-grows
+returns-in_err-delta-clause-grows c =
+    Grows-on c.args.at.now c.record_last.new.at c.delta.new.self c.in_ok-record_last.ensures.grows c.in_err-delta.ensures.grows
+
+pub returns-then-has_room-clause-grows : goal.returns-then-has_room-clause-grows
+returns-then-has_room-clause-grows c =
+    Grows-on c.args.at.now c.record_last.new.at c.delta.new.self c.in_ok-record_last.ensures.grows c.in_ok-delta.ensures.grows
+
+pub returns-in_err-put_pieces-clause-grows : goal.returns-in_err-put_pieces-clause-grows
+returns-in_err-put_pieces-clause-grows c =
+    Grows-on c.args.at.now c.record_length.new.at c.put_pieces.new.at c.in_ok-record_length.ensures.grows c.in_err-put_pieces.ensures.grows
+
+pub returns-clause-grows : goal.returns-clause-grows
+returns-clause-grows c =
+    Grows-on c.args.at.now c.record_length.new.at c.put_pieces.new.at c.in_ok-record_length.ensures.grows c.in_ok-put_pieces.ensures.grows

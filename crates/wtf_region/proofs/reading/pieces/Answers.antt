@@ -1,12 +1,15 @@
-use Rattle.std.proofs.Common.{◌≡◌, ◌⊎◌, ℕ, ◌+◌, arith, refl, sym, ap, ◌∙◌, subst, inl, inr}
+use Rattle.std.proofs.Common.{◌≡◌, ◌⊎◌, ℕ, ◌+◌, [], arith, refl, sym, ap, ◌∙◌, subst, inl, inr}
+use Rattle.std.specs.Prelude.{IsTrue}
+use Rattle.wtf_kv.specs.Stores.{is_pinned}
 use Rattle.wtf_meta.specs.Bytes.{FileBytes, any_slice}
 use Rattle.wtf_meta.specs.Maps.{Map, seen}
 use Rattle.wtf_meta.specs.FileEdits.{file_of}
-use Rattle.wtf_meta.specs.Appends.{touched, region_keys}
+use Rattle.wtf_meta.specs.Appends.{touched, keys_of, region_keys}
 use Rattle.wtf_meta.proofs.Touching.{touched-more}
-use Rattle.wtf_occ.proofs.AttemptLaws.{GrowsBy-nothing}
+use Rattle.wtf_occ.proofs.AttemptLaws.{GrowsBy-nothing, Grows-by, Grows-on}
 use Rattle.wtf_region.specs.Bases.{region_slices, bases_in}
 use Rattle.wtf_region.specs.Devs.{inside_of, is_down_in, stores}
+use Rattle.wtf_region.specs.Edited.{Recorded}
 use Rattle.wtf_region.specs.Reads.{IsPartRead, IsFileRead, LeavesRegion}
 use Rattle.wtf_region.proofs.ListReads.{file_none, file_on, file_later, may_recall, recalls_first}
 use Rattle.wtf_region.proofs.Recording.{still_seen, recorded_region, part_start}
@@ -24,6 +27,24 @@ loop-done-init g c = record {
   reads = reads_nothing g.S.SliceStore.kind (is_down_in c.args.dev.now) (stores c.args.dev.now);
   each = goes_nowhere g.met.S.SliceStore.laws c.args.dev.now c.requires.sound;
 }
+
+pub region_pieces-requires-clause-pinned : goal.region_pieces-requires-clause-pinned
+region_pieces-requires-clause-pinned g c =
+    subst (λ (base : ℕ). IsTrue (is_pinned c.args.kv.now base)) (sym c.loop-done.invariant.recorded.base) c.requires.pinned
+
+pub returns-in-Err-clause-grows : goal.returns-in-Err-clause-grows
+returns-in-Err-clause-grows g c =
+    let at = c.args.at.now in
+    let mid = c.loop-done.at in
+    let keys = keys_of c.args.inode (region_keys (touched c.args.dev.now.settings.region c.args.off c.loop-done.done)) in
+    Grows-on at mid c.region_pieces.new.at (Grows-by at mid keys [] c.loop-done.invariant.recorded) c.in-Err.ensures.grows
+
+pub returns-in-Err-append-clause-grows : goal.returns-in-Err-append-clause-grows
+returns-in-Err-append-clause-grows g c =
+    let at = c.args.at.now in
+    let mid = c.loop-done.at in
+    let keys = keys_of c.args.inode (region_keys (touched c.args.dev.now.settings.region c.args.off c.loop-done.done)) in
+    Grows-on at mid c.region_pieces.new.at (Grows-by at mid keys [] c.loop-done.invariant.recorded) c.in-Ok.ensures.grows
 
 pub region_pieces-requires-clause-inside : goal.region_pieces-requires-clause-inside
 region_pieces-requires-clause-inside g c =
@@ -165,3 +186,13 @@ returns-clause-read g c =
     let whole : c.loop-done.done ≡ c.args.len = omega (arith, c.loop-done.invariant.upto, c.loop-done-test.false) in
     subst (λ (n : ℕ). IsFileRead g.S.SliceStore.kind c.args.dev.now c.loop-done.dev (file_of c.args.inode (seen c.args.kv.now c.args.at.now)) c.args.off n
     c.loop-done.out.items) whole c.loop-done.invariant.read
+
+pub returns-clause-recorded : goal.returns-clause-recorded
+returns-clause-recorded g c =
+    let inv = c.loop-done.invariant in
+    let whole : c.loop-done.done ≡ c.args.len = omega (arith, inv.upto, c.loop-done-test.false) in
+    subst (λ (n : ℕ). Recorded c.args.inode (region_keys (touched c.args.dev.now.settings.region c.args.off n)) c.args.at.now c.loop-done.at) whole
+    inv.recorded
+
+pub returns-clause-grows : goal.returns-clause-grows
+returns-clause-grows g c = Grows-by c.args.at.now c.loop-done.at _ _ c.loop-done.invariant.recorded

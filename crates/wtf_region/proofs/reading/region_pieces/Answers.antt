@@ -16,7 +16,7 @@ seen_pieces-requires-clause-inside g c =
     let kv = c.args.kv.now in
     let r = c.args.part.region in
     let old = c.args.at.now in
-    let new = c.record_settled.new.at in
+    let new = c.record_region.new.at in
     let same : seen kv new ≡ seen kv old = still_seen kv i (OfRegion r ∷ []) old new c.in-Ok.ensures.recorded in
     subst (λ (w : Map). MaybeBytes (inside_of g.S.SliceStore.kind c.args.dev.now) any_slice ((file_of i w).region r)) (sym same) (c.requires.inside r)
 
@@ -26,7 +26,7 @@ returns-clause-read g c =
     let kv = c.args.kv.now in
     let p = c.args.part in
     let old = c.args.at.now in
-    let new = c.record_settled.new.at in
+    let new = c.record_region.new.at in
     let same : seen kv new ≡ seen kv old = still_seen kv i (OfRegion p.region ∷ []) old new c.in-Ok.ensures.recorded in
     IfOk-weaker c.seen_pieces.result _ _
     (λ v read.
@@ -39,7 +39,7 @@ returns-clause-fault g c =
     let kv = c.args.kv.now in
     let r = c.args.part.region in
     let old = c.args.at.now in
-    let new = c.record_settled.new.at in
+    let new = c.record_region.new.at in
     let same : seen kv new ≡ seen kv old = still_seen kv i (OfRegion r ∷ []) old new c.in-Ok.ensures.recorded in
     IfErr-weaker c.seen_pieces.result _ _
     (λ why is. subst (λ (w : Map). LeavesRegion g.S.SliceStore.kind c.args.dev.now c.seen_pieces.new.dev ((file_of i w).region r) why) same is)

@@ -1,11 +1,10 @@
-use Rattle.std.proofs.Common.{Option, refl, sym, ap, ◌∙◌, subst, inl}
+use Rattle.std.proofs.Common.{Option, sym, ap, ◌∙◌, subst}
 use Rattle.std.proofs.lemmas.Result.{IfOk-weaker, IfErr-weaker}
 use Rattle.wtf_values.specs.declared.region.RegionValue.{RegionValue}
 use Rattle.wtf_meta.specs.Bytes.{MaybeBytes, any_slice}
 use Rattle.wtf_meta.specs.FileEdits.{region_of}
 use Rattle.wtf_region.specs.Devs.{inside_of}
 use Rattle.wtf_region.specs.Reads.{IsPartRead, LeavesRegion}
-use Rattle.wtf_region.proofs.ListReads.{leaves_memory}
 use Rattle.wtf_region.proofs.reading.seen_pieces.Goals as goal
 
 pub value_pieces-requires-clause-inside : goal.value_pieces-requires-clause-inside
@@ -25,24 +24,3 @@ returns-in-Some-clause-fault g c =
     IfErr-weaker c.value_pieces.result _ _
     (λ why is. subst (λ (o : Option RegionValue). LeavesRegion g.S.SliceStore.kind c.args.dev.now c.value_pieces.new.dev o why)
     (c.region_in.ensures ∙ ap region_of c.in-Some.ensures.value) is) c.value_pieces.ensures.fault
-
-pub value_pieces-requires-2-clause-inside : goal.value_pieces-requires-2-clause-inside
-value_pieces-requires-2-clause-inside g c =
-    subst (λ (o : Option RegionValue). MaybeBytes (inside_of g.S.SliceStore.kind c.args.dev.now) any_slice o)
-    (sym (c.region_in-2.ensures ∙ ap region_of (c.as_ref.ensures.value ∙ c.in-Ok.ensures))) c.requires.inside
-
-pub returns-clause-read : goal.returns-clause-read
-returns-clause-read g c =
-    IfOk-weaker c.value_pieces-2.result _ _
-    (λ v read.
-    subst (λ (o : Option RegionValue). IsPartRead g.S.SliceStore.kind c.args.dev.now c.value_pieces-2.new.dev o c.args.part.off c.args.part.len v.items)
-    (c.region_in-2.ensures ∙ ap region_of (c.as_ref.ensures.value ∙ c.in-Ok.ensures)) read) c.value_pieces-2.ensures.read
-
-pub returns-clause-fault : goal.returns-clause-fault
-returns-clause-fault g c =
-    IfErr-weaker c.value_pieces-2.result _ _
-    (λ why is. subst (λ (o : Option RegionValue). LeavesRegion g.S.SliceStore.kind c.args.dev.now c.value_pieces-2.new.dev o why)
-    (c.region_in-2.ensures ∙ ap region_of (c.as_ref.ensures.value ∙ c.in-Ok.ensures)) is) c.value_pieces-2.ensures.fault
-
-pub returns-in-Err-clause-fault : goal.returns-in-Err-clause-fault
-returns-in-Err-clause-fault g c = leaves_memory g.S.SliceStore.kind c.args.dev.now c.args.dev.now _ _ refl (inl refl)
