@@ -82,7 +82,8 @@ fn regions_of(
     ensures { Parses (λ x. (region_rows x.0.items, x.1.now)) result
         (many_at region_at count bytes.now) }
 {
-    let mut regions = Vec::new(alloc);
+    // Most files have one region at most.
+    let mut regions = Vec::with_capacity(alloc, count.min(1) as usize)?;
     let mut rest = bytes;
     for _ in 0..count {
         let (region, after) = region_of(alloc, rest)?;
