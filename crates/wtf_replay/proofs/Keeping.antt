@@ -1,10 +1,11 @@
 -- What holds of a transaction over every device goes on holding.
 use Rattle.std.proofs.Common.{◌≡◌, ◌≢◌, ◌≤◌, ◌<◌, ℕ, zero, suc, ◌+◌, List, [], ◌∷◌, ◌++◌, Some, slice_get, true, false, nat_eq, length, refl, sym, ap, ◌∙◌}
 use Rattle.std.proofs.Common.{subst, arith, ⊎_elim}
-use Rattle.std.specs.Prelude.{IsTrue, if◌then◌else◌}
+use Rattle.std.specs.Prelude.{IsTrue, All, if◌then◌else◌}
 use Rattle.std.proofs.lemmas.Bool.{cases_lt, eq-eqb, ne_eqb}
 use Rattle.std.proofs.lemmas.List.{length_push}
 use Rattle.std.proofs.lemmas.List.Elements.{All-push}
+use Rattle.std.proofs.lemmas.Option.{slice_get_within, get_or_from_slice_get}
 use Rattle.wtf_base.specs.declared.kept.Kept.{Kept}
 use Rattle.wtf_kv.specs.Stores.{Store, is_pinned, times_pinned, IsPinnedOnceMore}
 use Rattle.wtf_kv.proofs.PinLaws.{is_pinned-more, any-count}
@@ -35,6 +36,10 @@ kept_push (q ∷ ops) (c ∷ shown) o a len h one zero p b e f = h zero p b e f
 kept_push (q ∷ ops) (c ∷ shown) o a len h one (suc k) p b e f = kept_push ops shown o a (omega (arith, len)) (λ j. h (suc j)) one k p b e f
 kept_push [] (c ∷ shown) o a len h one k p b e f = absurd (omega (arith, len))
 kept_push (q ∷ ops) [] o a len h one k p b e f = absurd (omega (arith, len))
+
+-- one of a list, where each keeps to something
+pub at_all : {X : Type 0} (P : X → Type 0) (xs : List X) (k : ℕ) (x : X) → slice_get xs k ≡ Some x → All P xs → P x
+at_all P xs k x is all = subst P (get_or_from_slice_get xs k x x is) (all k x (slice_get_within xs k x is))
 
 -- a log with one call more
 pub log_called : (log : Calls) (k : Op Kept) (a : Answer) → IsLog log → length log.ops ≢ MAX_LOGGED → IsFormOp IsKeptData k → IsLogged a → IsKeptFor k a

@@ -1,10 +1,10 @@
 -- Each way through an append, on all maps at once.
 use Rattle.std.proofs.Common.{◌≡◌, ◌≢◌, ℕ, ◌+◌, ◌*◌, ◌<◌, ◌≤◌, List, [], ◌∷◌, ◌++◌, length, replicate, take, Option, None, Some, refl, sym, ap, ◌∙◌, subst}
 use Rattle.std.proofs.Common.{arith, inl, inr}
-use Rattle.std.proofs.lemmas.List.{append-nil, take_all, get_or-replicate, length-replicate}
+use Rattle.std.proofs.lemmas.List.{append-nil, length-append, take_all, get_or-replicate, length-replicate}
 use Rattle.std.proofs.Math.Seq.{take-append_seam}
 use Rattle.wtf_base.specs.declared.ids.InodeId.{InodeId}
-use Rattle.wtf_occ.specs.Attempts.{Attempted, GrowsBy, Grows}
+use Rattle.wtf_occ.specs.Attempts.{Attempted, GoesOn, GrowsBy, Grows}
 use Rattle.wtf_overlay.specs.Origin.{part_origin, pieces_len, pieces_origin}
 use Rattle.wtf_overlay.specs.Meaning.{meaning}
 use Rattle.wtf_overlay.specs.declared.part.Part.{Part}
@@ -169,6 +169,10 @@ pub record Rewound (old mid new : Attempted Key Delta) : Type 0 where
   pub reads : new.reads ≡ mid.reads
   pub changes : new.changes ≡ old.changes
   pub grows : Grows old new
+
+-- a mark lies within what grew since it was made
+pub mark_within : {A : Type 0} (n : ℕ) (old new : List A) → n ≡ length old → GoesOn old new → n ≤ length new
+mark_within n old new is on = omega (arith, is, ap length on.1, length-append old on.0)
 
 pub rewound : (old mid new : Attempted Key Delta) (r c : ℕ) → new ≡ record mid { reads = take r mid.reads; changes = take c mid.changes } → r ≡ length mid.reads
     → c ≡ length old.changes

@@ -1,6 +1,8 @@
 -- Each way through a call that makes a file of others, on all maps at once.
 use Rattle.std.proofs.Common.{◌≡◌, ℕ, ◌-◌, ◌*◌, ◌^◌, ◌<◌, ◌≤◌, min, List, [], ◌++◌, length, Ok, Err, refl, sym, ap, ◌∙◌, subst, arith}
+use Rattle.wtf_base.specs.declared.fault.Fault.{Fault}
 use Rattle.wtf_base.specs.declared.ids.InodeId.{InodeId}
+use Rattle.wtf_dev.specs.Store.{StoreKind, KindLaws}
 use Rattle.wtf_kv.specs.Edits.{Agree}
 use Rattle.wtf_kv.proofs.EditLaws.{Agree-parts, Fits-append}
 use Rattle.wtf_occ.specs.Attempts.{Attempted, Grows}
@@ -16,6 +18,7 @@ use Rattle.wtf_model.specs.declared.op.Op.TheVariants as op
 use Rattle.wtf_model.specs.Tree.{sources}
 use Rattle.wtf_model.specs.Session.{Session}
 use Rattle.wtf_model.specs.Done.{Done, add_file}
+use Rattle.wtf_model.specs.Steps.{IsLogged}
 use Rattle.wtf_model.specs.Call.{call}
 use Rattle.wtf_values.specs.declared.key.Key.{Key}
 use Rattle.wtf_values.specs.declared.value.Delta.{Delta}
@@ -40,9 +43,14 @@ use Rattle.wtf_index.specs.Checks.{target_of}
 use Rattle.wtf_index.specs.Recorded.{target_keys, keys_if}
 use Rattle.wtf_index.proofs.Checked.{target-refused, target-free, target-agrees}
 use Rattle.wtf_index.proofs.Ways.{create-made}
+use Rattle.wtf_region.specs.declared.dev.Dev.{Dev}
+use Rattle.wtf_region.specs.Devs.{IsSoundDev, is_down_in, stores}
 use Rattle.wtf_region.specs.Edited.{LaysPieces}
+use Rattle.wtf_region.proofs.ShowLaws.{reads_nothing}
+use Rattle.wtf_region.proofs.Spans.{goes_nowhere}
 use Rattle.wtf_steps.proofs.FitsAnywhere.{fits_anywhere}
 use Rattle.wtf_steps.proofs.Ways.{only_keys, stays}
+use Rattle.wtf_slicing.specs.Called.{SliceLeft}
 use Rattle.wtf_slicing.specs.Recorded.{files_keys, sources_keys, found_keys, concat_keys}
 use Rattle.wtf_slicing.specs.Sources.{sources_of, lens_of, ReadsFiles}
 use Rattle.wtf_slicing.specs.Steps.{IsNewFor}
@@ -81,6 +89,28 @@ concat_keys_are b q dir ps is e f =
 pub grown : (a b c d e f h : Attempted Key Delta) → Grows a b → Grows b c → Grows c d → Grows d e → Grows e f → Grows f h → Grows a h
 grown a b c d e f h first second third fourth fifth sixth =
     Grows-on a b h first (Grows-on b c h second (Grows-on c d h third (Grows-on d e h fourth (Grows-on e f h fifth sixth))))
+
+-- no list was read: what is left where a fault comes of it
+pub left_still : {S : Type 0} {kind : StoreKind S} {why : Fault} → KindLaws kind → (dev : Dev S) → IsSoundDev kind dev → (old new : Attempted Key Delta)
+    → Grows old new → SliceLeft kind dev dev old new (Err why)
+left_still {kind = kind} laws dev sound old new grows = record {
+  logged = tt;
+  refused = tt;
+  grows = grows;
+  reads = reads_nothing kind (is_down_in dev) (stores dev);
+  dev = goes_nowhere laws dev sound;
+}
+
+-- and where it is refused
+pub left_refused : {S : Type 0} {kind : StoreKind S} → KindLaws kind → (dev : Dev S) → IsSoundDev kind dev → (old new : Attempted Key Delta) → (word : Word)
+    → IsLogged (answer.Refused word) → new.changes ≡ old.changes → Grows old new → SliceLeft kind dev dev old new (Ok (answer.Refused word))
+left_refused {kind = kind} laws dev sound old new word logged same grows = record {
+  logged = logged;
+  refused = λ h. (refl, same);
+  grows = grows;
+  reads = reads_nothing kind (is_down_in dev) (stores dev);
+  dev = goes_nowhere laws dev sound;
+}
 
 -- a number that stops at a limit, against a smaller one
 pub not_more : (n lens cap z : ℕ) → n ≡ min lens (2 ^ 64 - 1) → n ≤ cap → cap ≡ MAX_REGIONS * z → z < 2 ^ 32 → lens ≤ MAX_REGIONS * z

@@ -1,9 +1,12 @@
 -- Each way through a call that lays a slice over a file, or adds one at its end.
-use Rattle.std.proofs.Common.{◌≡◌, ℕ, ◌+◌, ◌<◌, ◌≤◌, List, [], length, None, Some, refl, sym, ◌∙◌, subst, arith}
+use Rattle.std.proofs.Common.{◌≡◌, ℕ, ◌+◌, ◌<◌, ◌≤◌, List, [], length, None, Some, Result, Ok, Err, refl, sym, ◌∙◌, subst, arith}
+use Rattle.std.specs.Prelude.{IsErr}
 use Rattle.wtf_base.specs.declared.ids.InodeId.{InodeId}
-use Rattle.wtf_occ.specs.Attempts.{Attempted}
+use Rattle.wtf_base.specs.declared.memory.OutOfMemory.{OutOfMemory}
+use Rattle.wtf_occ.specs.Attempts.{Attempted, Grows}
 use Rattle.wtf_overlay.specs.Origin.{pieces_len}
 use Rattle.wtf_overlay.specs.declared.part.Piece.{Piece}
+use Rattle.wtf_model.specs.declared.answer.Answer.{Answer}
 use Rattle.wtf_model.specs.declared.answer.Answer.TheVariants as answer
 use Rattle.wtf_model.specs.declared.answer.Word.TheVariants.{NoSlice, TooBig}
 use Rattle.wtf_model.specs.declared.op.Op.{Op}
@@ -21,7 +24,7 @@ use Rattle.wtf_meta.specs.Maps.{Map, with}
 use Rattle.wtf_meta.specs.FileEdits.{FileEdit, file_of, edits_of}
 use Rattle.wtf_meta.specs.Appends.{FileKey, keys_of, append_keys}
 use Rattle.wtf_meta.specs.Sessions.{SessionView, handle_in, slice_in, SetsHandle, moved_to}
-use Rattle.wtf_meta.specs.Calls.{Caller, cap_for, Did, IsDone, DoneOnEach, IsCall}
+use Rattle.wtf_meta.specs.Calls.{Caller, InHand, cap_for, Did, IsDone, DoneOnEach, IsCall}
 use Rattle.wtf_meta.proofs.FeetFiles.{reads_feet, lays_feet, adds_feet}
 use Rattle.wtf_region.specs.declared.added.Added.{Added}
 use Rattle.wtf_region.specs.declared.added.Added.TheVariants as added
@@ -32,11 +35,18 @@ use Rattle.wtf_model.proofs.ByteLaws.{write-nothing, write-big}
 use Rattle.wtf_steps.proofs.Ways.{only_keys, on_file, stays_bare}
 use Rattle.wtf_steps.proofs.FileWays.{writes, appends, appends_too_much}
 use Rattle.wtf_model.proofs.SliceLaws.{paste-unset, paste-write, glue-unset, glue-append}
+use Rattle.wtf_slicing.specs.Called.{LaysSlice}
 use Rattle.wtf_slicing.proofs.Slices.{slice_of, no_slice_of}
 
 -- keys, and changes that lay pieces that were in hand
 abbrev pub lays : List Key → InodeId → List FileEdit → Did
 lays keys i ds = record { keys = keys; edits = edits_of i ds; facts = []; stored = []; lists = [] }
+
+-- want of memory leaves the session as it was
+pub lays_short : (old new : InHand) (r : Result Answer OutOfMemory) → IsErr r → new.session ≡ old.session
+    → Grows old.at new.at → LaysSlice old new r
+lays_short old new (Ok a) lacks same grows = absurd (cc)
+lays_short old new (Err e) lacks same grows = record { logged = tt; refused = tt; err = same; grows = grows }
 
 module _ (x : Caller) (b : Map) (s : SessionView) (f label : ℕ) (h : Handle) (here : handle_in s f ≡ Some h) where
   -- a slice that was never set

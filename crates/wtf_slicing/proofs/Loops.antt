@@ -1,9 +1,9 @@
 -- One step more of the walks over sources, over the regions of a file, and over files.
 use Rattle.std.proofs.Common.{◌≡◌, ℕ, zero, suc, ◌+◌, ◌<◌, ◌≤◌, List, [], ◌∷◌, ◌++◌, length, map, get_or, take, drop, append_assoc, append-nil, Option, Result}
 use Rattle.std.proofs.Common.{Ok, Err, refl, sym, ap, ◌∙◌, subst, arith}
-use Rattle.std.proofs.lemmas.List.{map-append, take-append-drop, drop_more}
+use Rattle.std.proofs.lemmas.List.{length-append, map-append, take-append-drop, drop_more}
 use Rattle.wtf_base.specs.declared.ids.InodeId.{InodeId}
-use Rattle.wtf_occ.specs.Attempts.{Attempted}
+use Rattle.wtf_occ.specs.Attempts.{Attempted, GoesOn}
 use Rattle.wtf_model.specs.declared.answer.Word.{Word}
 use Rattle.wtf_model.specs.Tree.{◌>>=◌}
 use Rattle.wtf_values.specs.declared.key.Key.{Key}
@@ -125,6 +125,10 @@ puts-more i r (u ∷ vs) v =
 
 pub le-trans : (a b c : ℕ) → a ≤ b → b ≤ c → a ≤ c
 le-trans a b c first next = omega arith
+
+-- a mark lies within what grew since it was made
+pub mark_within : {A : Type 0} (n : ℕ) (old new : List A) → n ≡ length old → GoesOn old new → n ≤ length new
+mark_within n old new is on = omega (arith, is, ap length on.1, length-append old on.0)
 
 -- one file has no more bytes than all
 pub lens_one : (b : ℕ) (u : Map) (is : List InodeId) (k : ℕ) (none : InodeId) → k < length is → lens_of b u (get_or is k none ∷ []) ≤ lens_of b u is

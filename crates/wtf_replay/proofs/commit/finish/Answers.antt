@@ -1,6 +1,9 @@
 use Rattle.std.proofs.Common.{◌≡◌, nat_eq, count_by, length, refl, sym, ap, ◌∙◌, subst, inl, inr}
 use Rattle.std.proofs.lemmas.Result.{IfOk-weaker, IfErr-weaker}
 use Rattle.wtf_replica.specs.Bytes.{byte_at}
+use Rattle.wtf_occ.specs.Attempts.{Attempted, Grows}
+use Rattle.wtf_values.specs.declared.key.Key.{Key}
+use Rattle.wtf_values.specs.declared.value.Delta.{Delta}
 use Rattle.wtf_meta.specs.Contents.{Told}
 use Rattle.wtf_meta.specs.Bytes.{MapBytes}
 use Rattle.wtf_meta.specs.Maps.{metadata_at}
@@ -144,3 +147,11 @@ returns-in-Err-install_now-clause-made g c =
       reads = made.reads;
       dev = made.dev;
     }
+
+pub returns-in-Ok-install_now-clause-grows : goal.returns-in-Ok-install_now-clause-grows
+returns-in-Ok-install_now-clause-grows g c =
+    subst (λ (at : Attempted Key Delta). Grows c.args.at.now at) (sym c.in-Ok-install_now.ensures.same) c.in-Ok.ensures.made.grows
+
+pub returns-in-Err-install_now-clause-grows : goal.returns-in-Err-install_now-clause-grows
+returns-in-Err-install_now-clause-grows g c =
+    subst (λ (at : Attempted Key Delta). Grows c.args.at.now at) (sym c.in-Err-install_now.ensures.same) c.in-Ok.ensures.made.grows

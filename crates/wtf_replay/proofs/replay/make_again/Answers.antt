@@ -1,5 +1,16 @@
 use Rattle.std.proofs.Common.{◌≡◌, ◌+◌, ◌-◌, Some, slice_get, sym, ap, ◌∙◌, arith}
+use Rattle.wtf_model.specs.Form.{IsFormOp, IsKeptData}
+use Rattle.wtf_model.specs.Steps.{IsLogged}
+use Rattle.wtf_replay.proofs.Keeping.{at_all}
 use Rattle.wtf_replay.proofs.replay.make_again.Goals as goal
+
+pub make_stored-requires-clause-form : goal.make_stored-requires-clause-form
+make_stored-requires-clause-form g c =
+    at_all (IsFormOp IsKeptData) c.args.log.now.ops (c.args.k + 1 - 1) c.op-op.result.now c.op-op.ensures c.requires.log.form
+
+pub is_same_answer-same-requires : goal.is_same_answer-same-requires
+is_same_answer-same-requires g c =
+    at_all IsLogged c.args.log.now.shown (c.args.k + 1 - 1) c.shown.result.now c.shown.ensures c.requires.log.shown
 
 pub returns : goal.returns
 returns g c =

@@ -1,9 +1,11 @@
-use Rattle.std.proofs.Common.{◌≡◌, ℕ, [], ◌∷◌, length, Option, Some, refl, sym, ap, ◌∙◌, subst, arith}
+use Rattle.std.proofs.Common.{◌≡◌, ℕ, [], ◌∷◌, length, Option, Some, refl, sym, ap, ◌∙◌, subst, arith, inl, inr}
 use Rattle.wtf_base.specs.declared.ids.InodeId.{InodeId}
 use Rattle.wtf_base.specs.declared.slice.Slice.{Slice}
-use Rattle.wtf_occ.specs.Attempts.{Attempted}
-use Rattle.wtf_occ.proofs.AttemptLaws.{GrowsBy-nothing}
+use Rattle.wtf_occ.specs.Attempts.{Attempted, Grows}
+use Rattle.wtf_occ.proofs.AttemptLaws.{GrowsBy-nothing, Grows-by}
 use Rattle.wtf_overlay.specs.Origin.{pieces_len}
+use Rattle.wtf_model.specs.Steps.{IsLogged}
+use Rattle.wtf_model.specs.declared.answer.Answer.{Answer}
 use Rattle.wtf_model.specs.declared.answer.Answer.TheVariants as answer
 use Rattle.wtf_model.specs.declared.answer.Word.TheVariants.{NoHandle, TooBig}
 use Rattle.wtf_model.specs.declared.op.Op.TheVariants as op
@@ -23,10 +25,11 @@ use Rattle.wtf_region.specs.declared.added.Added.{Added}
 use Rattle.wtf_region.specs.declared.added.Added.TheVariants as added
 use Rattle.wtf_region.specs.Edited.{IsFileEnd, Recorded, LacksRoom, IsAdded}
 use Rattle.std.specs.Option.{option_map}
-use Rattle.wtf_steps.specs.Steps.{in_hand}
+use Rattle.wtf_region.proofs.Spans.{goes_nowhere}
+use Rattle.wtf_steps.specs.Steps.{in_hand, IsRefusal}
 use Rattle.wtf_steps.proofs.Leaving.{leaves_all, leaves_put}
 use Rattle.wtf_rw.specs.Ops.{file_at_end}
-use Rattle.wtf_rw.specs.Stored.{HasRoom, ArePieces, end_place}
+use Rattle.wtf_rw.specs.Stored.{HasRoom, ArePieces, IsOwn, end_place}
 use Rattle.wtf_model.proofs.ByteLaws.{append-none}
 use Rattle.wtf_steps.proofs.Ways.{no_handle, spot_open, spot_closed}
 use Rattle.wtf_rw.proofs.StoredBytes.{tell_stored, step_only}
@@ -37,7 +40,7 @@ use Rattle.std.proofs.lemmas.List.{append-nil}
 use Rattle.wtf_steps.specs.Made.{AddsAt}
 use Rattle.wtf_steps.proofs.Making.{makes_refused, adds_none, makes_added}
 use Rattle.wtf_rw.specs.Changed.{OfSlice}
-use Rattle.wtf_rw.proofs.MadeWays.{brings_no_slice, brings_slice}
+use Rattle.wtf_rw.proofs.MadeWays.{brings_no_slice, brings_slice, some_none, not_some, puts_nothing, memory_short}
 use Rattle.wtf_rw.proofs.appends.append_fresh.Goals as goal
 
 pub returns-in_default-clause-step : goal.returns-in_default-clause-step
@@ -328,3 +331,107 @@ returns-in-Err-add_at-clause-leaves g c =
     leaves_put g.S.SliceStore.kind (between dev c.store_bytes.new.dev) o (file_at_end dev w) open_at.handle (place_in dev i c.in-Some-room.off).file open_at.is
     (ap (λ (n : ℕ). (place_in dev i n).file) at_end ∙ ap (λ (j : InodeId). (place_in dev j (end_place dev.settings.region (file_of j w))).file) open_at.inode)
     c.in-Ok-store_bytes.ensures.down c.in-Ok-store_bytes.ensures.others c.in-Ok-store_bytes.ensures.syncs
+
+pub returns-in_default-clause-puts : goal.returns-in_default-clause-puts
+returns-in_default-clause-puts g c =
+    let s = c.args.s.now in
+    puts_nothing g.met.S.SliceStore.laws c.args.dev.now c.requires.sound (in_hand c.args.at.now s) (handle_in s c.args.f) c.args.bytes.now
+    c.only.result c.only.ensures.own
+    (subst (λ (a : Answer). IsLogged a) (sym c.only.ensures.answer) tt)
+    (inr (subst (λ (a : Answer). IsRefusal a) (sym c.only.ensures.answer) tt))
+
+pub returns-then-len-eq0-clause-puts : goal.returns-then-len-eq0-clause-puts
+returns-then-len-eq0-clause-puts g c =
+    let s = c.args.s.now in
+    puts_nothing g.met.S.SliceStore.laws c.args.dev.now c.requires.sound (in_hand c.args.at.now s) (handle_in s c.args.f) c.args.bytes.now
+    c.only-then-len-eq0.result c.only-then-len-eq0.ensures.own
+    (subst (λ (a : Answer). IsLogged a) (sym c.only-then-len-eq0.ensures.answer) tt)
+    (inl c.if-len-eq0.true)
+
+pub returns-in_default-clause-own : goal.returns-in_default-clause-own
+returns-in_default-clause-own g c h e =
+    let dev = c.args.dev.now in
+    let place = place_in dev h.inode (end_place dev.settings.region (file_of h.inode (seen c.args.kv.now c.args.at.now))) in
+    subst (λ (o : Option Slice). IsOwn g.S.SliceStore.kind dev dev place c.args.bytes.now o) (sym c.only.ensures.own) refl
+
+pub returns-then-len-eq0-clause-own : goal.returns-then-len-eq0-clause-own
+returns-then-len-eq0-clause-own g c h e =
+    let dev = c.args.dev.now in
+    let place = place_in dev h.inode (end_place dev.settings.region (file_of h.inode (seen c.args.kv.now c.args.at.now))) in
+    subst (λ (o : Option Slice). IsOwn g.S.SliceStore.kind dev dev place c.args.bytes.now o) (sym c.only-then-len-eq0.ensures.own) refl
+
+pub returns-in-Ok-clause-own : goal.returns-in-Ok-clause-own
+returns-in-Ok-clause-own g c h e =
+    let dev = c.args.dev.now in
+    let place = place_in dev h.inode (end_place dev.settings.region (file_of h.inode (seen c.args.kv.now c.args.at.now))) in
+    subst (λ (o : Option Slice). IsOwn g.S.SliceStore.kind dev dev place c.args.bytes.now o) (sym c.only-in-Ok.ensures.own) refl
+
+pub returns-in-Ok-clause-puts : goal.returns-in-Ok-clause-puts
+returns-in-Ok-clause-puts g c =
+    let dev = c.args.dev.now in
+    let at = c.args.at.now in
+    let new = c.file_len.new.at in
+    let b = seen c.args.kv.now at in
+    let i = c.in-Some.spot.inode in
+    let open_at = spot_open c.handle_of.result (handle_in c.args.s.now c.args.f) c.in-Some.spot c.handle_of.ensures c.in-Some.is in
+    let recorded : Recorded i (length_keys (file_of i b)) at new =
+    subst (λ (a : Attempted Key Delta). Recorded i (length_keys (file_of i (seen c.args.kv.now a))) a new) c.file_end-end.ensures.same
+    c.in-Ok.ensures.recorded in
+    record {
+      closed = λ shut. absurd (some_none open_at.handle (sym open_at.is ∙ shut));
+      lacks = λ own. inr (subst (λ (a : Answer). IsRefusal a) (sym c.only-in-Ok.ensures.answer) tt);
+      done = λ some. absurd (not_some c.only-in-Ok.result.own c.only-in-Ok.ensures.own some);
+      logged = subst (λ (a : Answer). IsLogged a) (sym c.only-in-Ok.ensures.answer) tt;
+      refused = λ refusal. (refl, c.only-in-Ok.ensures.own, recorded.changes ∙ append-nil at.changes, refl);
+      fault = tt;
+      lists = refl;
+      err = tt;
+      grows = Grows-by at new _ _ recorded;
+      dev = goes_nowhere g.met.S.SliceStore.laws dev c.requires.sound;
+    }
+
+pub returns-in-Err-clause-puts : goal.returns-in-Err-clause-puts
+returns-in-Err-clause-puts g c =
+    let dev = c.args.dev.now in
+    record {
+      closed = tt;
+      lacks = tt;
+      done = tt;
+      logged = tt;
+      refused = tt;
+      fault = memory_short g.S.SliceStore.kind dev dev c.args.bytes.now;
+      lists = refl;
+      err = refl;
+      grows = subst (λ (a : Attempted Key Delta). Grows a c.file_len.new.at) c.file_end-end.ensures.same c.in-Err.ensures.grows;
+      dev = goes_nowhere g.met.S.SliceStore.laws dev c.requires.sound;
+    }
+
+pub returns-in-Ok-add_at-clause-puts : goal.returns-in-Ok-add_at-clause-puts
+returns-in-Ok-add_at-clause-puts g c =
+    let open_at = spot_open c.handle_of.result (handle_in c.args.s.now c.args.f) c.in-Some.spot c.handle_of.ensures c.in-Some.is in
+    record {
+      closed = λ shut. absurd (some_none open_at.handle (sym open_at.is ∙ shut));
+      lacks = λ none. absurd (some_none c.in-Ok-store_bytes.slice none);
+      done = λ some. refl;
+      logged = tt;
+      refused = λ h. absurd h;
+      fault = tt;
+      lists = c.in-Ok-store_bytes.ensures.lists;
+      err = tt;
+      grows = subst (λ (a : Attempted Key Delta). Grows a c.add_at.new.at) c.file_end-end.ensures.same c.in-Ok-add_at.ensures.grows;
+      dev = c.in-Ok-store_bytes.ensures.dev;
+    }
+
+pub returns-in-Err-add_at-clause-puts : goal.returns-in-Err-add_at-clause-puts
+returns-in-Err-add_at-clause-puts g c = record {
+  closed = tt;
+  lacks = tt;
+  done = tt;
+  logged = tt;
+  refused = tt;
+  fault = memory_short g.S.SliceStore.kind c.args.dev.now c.store_bytes.new.dev c.args.bytes.now;
+  lists = c.in-Ok-store_bytes.ensures.lists;
+  err = refl;
+  grows = subst (λ (a : Attempted Key Delta). Grows a c.add_at.new.at) c.file_end-end.ensures.same c.in-Err-add_at.ensures.grows;
+  dev = c.in-Ok-store_bytes.ensures.dev;
+}

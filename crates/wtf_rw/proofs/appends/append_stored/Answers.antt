@@ -21,12 +21,13 @@ use Rattle.wtf_rw.specs.Stored.{Answers}
 use Rattle.wtf_model.proofs.ByteLaws.{append-none}
 use Rattle.wtf_steps.proofs.Ways.{no_handle, spot_open, spot_closed}
 use Rattle.wtf_rw.proofs.StoredBytes.{step_stored}
-use Rattle.wtf_rw.proofs.AppendWays.{adds, adds_nothing, rewound, hole_tells, adds_answer, nothing_answer, closed_answer, step_brought, step_nothing}
+use Rattle.wtf_rw.proofs.AppendWays.{adds, adds_nothing, mark_within, rewound, hole_tells, adds_answer, nothing_answer, closed_answer}
+use Rattle.wtf_rw.proofs.AppendWays.{step_brought, step_nothing}
 use Rattle.wtf_steps.proofs.AppendWays.{added_keys, keys_due}
 use Rattle.wtf_steps.specs.Made.{AddsAt}
 use Rattle.wtf_steps.proofs.Making.{makes_refused, adds_none, makes_added}
 use Rattle.wtf_rw.specs.Changed.{OfSlice}
-use Rattle.wtf_rw.proofs.MadeWays.{no_slice_kept, brings_no_slice, brings_slice}
+use Rattle.wtf_rw.proofs.MadeWays.{no_slice_kept, brings_no_slice, brings_slice, some_none, alters_nothing}
 use Rattle.wtf_rw.proofs.appends.append_stored.Goals as goal
 
 pub returns-in_default-clause-step : goal.returns-in_default-clause-step
@@ -75,6 +76,17 @@ returns-in_default-slice-clause-keys c =
     back.reads ∙ keys_due z b (handle_in s f) open_at.handle i (pieces_len (p ∷ [])) c.args.kept.len c.add_pieces.new.at.reads c.args.at.now.reads open_at.is
     open_at.inode (omega (arith, c.of-hole.ensures.len))
     (added_keys z i (file_of i b) (p ∷ []) c.args.at.now c.add_pieces.new.at c.in_ok-added.added c.in_ok-added.ensures.added)
+
+pub rewind-requires-clause-changes : goal.rewind-requires-clause-changes
+rewind-requires-clause-changes c =
+    mark_within c.mark-before.result.changes c.args.at.now.changes c.add_pieces.new.at.changes (ap (λ m. m.changes) c.mark-before.ensures)
+    c.in_ok-added.ensures.grows.changes
+
+pub returns-in_default-slice-clause-bare : goal.returns-in_default-slice-clause-bare
+returns-in_default-slice-clause-bare c none =
+    let back = rewound c.args.at.now c.add_pieces.new.at c.rewind.new.self c.mark-after.result.reads c.mark-before.result.changes c.rewind.ensures.cut
+    (ap (λ m. m.reads) c.mark-after.ensures) (ap (λ m. m.changes) c.mark-before.ensures) c.in_ok-added.ensures.grows in
+    back.changes
 
 pub returns-in_default-slice-clause-alters : goal.returns-in_default-slice-clause-alters
 returns-in_default-slice-clause-alters c =
@@ -181,3 +193,12 @@ returns-clause-made c =
     brings_slice c.answer_to-2.result (answer_of r) c.args.kept.slice c.in-Some-slice.slice p (AddsAt z b o) at new c.answer_to-2.ensures.value
     c.in-Some-slice.is c.piece_of.ensures.len c.piece_of.ensures.part
     (makes_added z b o open_at.handle i (p ∷ []) at new r open_at.is open_at.inode c.in_ok-added-2.ensures.added)
+
+pub returns-in_default-clause-alters : goal.returns-in_default-clause-alters
+returns-in_default-clause-alters c = alters_nothing (in_hand c.args.at.now c.args.s.now) (answer.Refused NoHandle) tt
+
+pub returns-then-kept-eq0-clause-alters : goal.returns-then-kept-eq0-clause-alters
+returns-then-kept-eq0-clause-alters c = alters_nothing (in_hand c.args.at.now c.args.s.now) answer.Okay tt
+
+pub returns-clause-bare : goal.returns-clause-bare
+returns-clause-bare c none = absurd (some_none c.in-Some-slice.slice (sym c.in-Some-slice.is ∙ none))

@@ -29,7 +29,7 @@ use Rattle.wtf_region.proofs.InsideLaws.{readable_from}
 use Rattle.wtf_region.proofs.Recording.{still_seen}
 use Rattle.wtf_region.proofs.ListReads.{pieces_inside, file_read_later}
 use Rattle.wtf_region.proofs.ShowLaws.{reads_over}
-use Rattle.wtf_region.proofs.Spans.{goes_on}
+use Rattle.wtf_region.proofs.Spans.{goes_nowhere, goes_on}
 use Rattle.wtf_model.specs.declared.answer.Word.TheVariants.{NoHandle}
 use Rattle.wtf_steps.specs.Faults.{MayFault}
 use Rattle.wtf_steps.specs.Holding.{MovesOn}
@@ -312,6 +312,24 @@ returns-clause-holds g c =
     open_at.inode open_at.off in
     hand_goes (answer.Shown c.of.result) (MovesOn f n) s t (λ h. h)
     (moves_on f (c.in-Some.spot.off + k) n s t open_at.handle open_at.is (omega (arith, open_at.off, count)) c.move_handle.ensures)
+
+pub returns-in_default-clause-dev : goal.returns-in_default-clause-dev
+returns-in_default-clause-dev g c = goes_nowhere g.met.S.SliceStore.laws c.args.dev.now c.requires.sound
+
+pub returns-in-Err-clause-dev : goal.returns-in-Err-clause-dev
+returns-in-Err-clause-dev g c = goes_nowhere g.met.S.SliceStore.laws c.args.dev.now c.requires.sound
+
+pub returns-in-Err-pieces-clause-reads : goal.returns-in-Err-pieces-clause-reads
+returns-in-Err-pieces-clause-reads g c = record {
+  records = tt;
+  same = tt;
+  none = tt;
+  logged = tt;
+  refused = tt;
+  err = refl;
+  grows = Grows-on c.args.at.now c.file_len.new.at c.pieces.new.at c.in-Ok.ensures.grows c.in-Err-pieces.ensures.grows;
+  reads = c.in-Err-pieces.ensures.reads;
+}
 
 pub returns-in-Err-show-clause-reads : goal.returns-in-Err-show-clause-reads
 returns-in-Err-show-clause-reads g c = record {

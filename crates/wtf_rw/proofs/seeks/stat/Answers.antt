@@ -1,8 +1,9 @@
-use Rattle.std.proofs.Common.{◌≡◌, ℕ, [], ◌∷◌, ◌++◌, Some, None, sym, ap, ◌∙◌, subst}
+use Rattle.std.proofs.Common.{◌≡◌, ℕ, [], ◌∷◌, ◌++◌, Some, None, refl, sym, ap, ◌∙◌, subst}
 use Rattle.wtf_model.specs.declared.answer.Answer.TheVariants as answer
 use Rattle.wtf_model.specs.declared.answer.Word.TheVariants.{NoEnt}
 use Rattle.wtf_model.specs.declared.op.Op.TheVariants as op
 use Rattle.wtf_occ.specs.Attempts.{GrowsBy}
+use Rattle.wtf_occ.proofs.AttemptLaws.{Grows-on}
 use Rattle.wtf_values.specs.declared.key.Key.TheVariants.{Path, Links}
 use Rattle.wtf_values.specs.declared.value.Node.TheVariants.{Folder, File}
 use Rattle.wtf_meta.specs.Maps.{Map, seen}
@@ -13,6 +14,8 @@ use Rattle.wtf_steps.specs.Steps.{in_hand}
 use Rattle.wtf_index.specs.Checks.{stands_at}
 use Rattle.wtf_steps.specs.Recorded.{len_keys}
 use Rattle.wtf_index.proofs.Going.{keys_more, seen-same}
+use Rattle.wtf_rw.specs.Recorded.{stat_keys}
+use Rattle.wtf_rw.proofs.MadeWays.{looks_short}
 use Rattle.wtf_rw.proofs.Ways.{stats_nothing, stats_folder, stats_file}
 use Rattle.wtf_steps.proofs.Ways.{step_of}
 use Rattle.wtf_rw.proofs.seeks.stat.Goals as goal
@@ -52,3 +55,21 @@ returns-clause-step c s x bytes size writes whole =
     (answer.File c.in_ok-len.len c.in_ok-links.links)
     (keys_more c.args.at.now last c.links_at.new.at (Path p ∷ len_keys b i) (Links i ∷ []) looked c.in_ok-links.ensures.went)
     (stats_file x b s p i c.in_ok-len.len c.in_ok-links.links node len links)
+
+pub returns-in_err-len-clause-looks : goal.returns-in_err-len-clause-looks
+returns-in_err-len-clause-looks c s =
+    let at = c.args.at.now in
+    let mid = c.look_up.new.at in
+    let new = c.file_len.new.at in
+    looks_short (stat_keys (seen c.args.kv.now at) c.args.p.now) (in_hand at s) (in_hand new s) c.from_residual-in_err-len.result
+    c.from_residual-in_err-len.ensures.0 refl (Grows-on at mid new c.in_ok-inode.ensures.grows c.in_err-len.ensures.grows)
+
+pub returns-in_err-links-clause-looks : goal.returns-in_err-links-clause-looks
+returns-in_err-links-clause-looks c s =
+    let at = c.args.at.now in
+    let mid = c.look_up.new.at in
+    let last = c.file_len.new.at in
+    let new = c.links_at.new.at in
+    looks_short (stat_keys (seen c.args.kv.now at) c.args.p.now) (in_hand at s) (in_hand new s) c.from_residual-in_err-links.result
+    c.from_residual-in_err-links.ensures.0 refl
+    (Grows-on at mid new c.in_ok-inode.ensures.grows (Grows-on mid last new c.in_ok-len.ensures.grows c.in_err-links.ensures.grows))

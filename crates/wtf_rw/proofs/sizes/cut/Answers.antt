@@ -1,5 +1,5 @@
 use Rattle.std.proofs.Common.{ℕ, ◌-◌, ◌*◌, ◌/◌, [], ◌∷◌, refl, ap, arith}
-use Rattle.wtf_occ.proofs.AttemptLaws.{GrowsBy-change, GrowsBy-append}
+use Rattle.wtf_occ.proofs.AttemptLaws.{GrowsBy-change, GrowsBy-append, Grows-on}
 use Rattle.wtf_meta.specs.FileEdits.{SetLast, Clip, CutAbove, edit_of}
 use Rattle.wtf_meta.proofs.Truncating.{cut_edits}
 use Rattle.wtf_rw.proofs.SizeEdits.{cuts_to}
@@ -26,3 +26,17 @@ returns-clause-ok c =
           (GrowsBy-change two all e3 c.in_ok-cut_range.ensures.ok));
       does = cuts_to b n r k i (omega (arith, c.args.settings.limits)) c.requires (ap (λ (m : ℕ). m / b) c.saturating_sub.ensures) refl;
     }
+
+pub returns-clause-grows : goal.returns-clause-grows
+returns-clause-grows c =
+    let one = c.delta.new.self in
+    let two = c.delta-2.new.self in
+    let all = c.cut_range.new.self in
+    Grows-on c.args.at.now one all c.in_ok-delta.ensures.grows (Grows-on one two all c.in_ok-delta-2.ensures.grows c.in_ok-cut_range.ensures.grows)
+
+pub returns-in_err-cut_range-clause-grows : goal.returns-in_err-cut_range-clause-grows
+returns-in_err-cut_range-clause-grows c =
+    let one = c.delta.new.self in
+    let two = c.delta-2.new.self in
+    let all = c.cut_range.new.self in
+    Grows-on c.args.at.now one all c.in_ok-delta.ensures.grows (Grows-on one two all c.in_ok-delta-2.ensures.grows c.in_err-cut_range.ensures.grows)

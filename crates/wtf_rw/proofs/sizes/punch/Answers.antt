@@ -16,6 +16,7 @@ use Rattle.wtf_steps.proofs.Making.{makes_refused, makes_these, of_file}
 use Rattle.wtf_meta.specs.FileEdits.{edits_of}
 use Rattle.wtf_rw.specs.Changed.{PunchesAt}
 use Rattle.wtf_rw.specs.Sizes.{IsPunched}
+use Rattle.wtf_rw.proofs.MadeWays.{alters_nothing}
 use Rattle.wtf_rw.proofs.sizes.punch.Goals as goal
 
 pub returns-in_default-clause-step : goal.returns-in_default-clause-step
@@ -63,3 +64,9 @@ returns-clause-made c =
     makes_these (PunchesAt z (handle_in s f) n) (edits_of i edited.edits) c.args.at.now c.zero.new.at edited.grows.changes
     (of_file (λ g ds. IsPunched z g.off n ds) (handle_in s f) open_at.handle i edited.edits open_at.is open_at.inode
     (subst (λ (k : ℕ). IsPunched z k n edited.edits) open_at.off edited.does.exact))
+
+pub returns-in_default-clause-alters : goal.returns-in_default-clause-alters
+returns-in_default-clause-alters c = alters_nothing (in_hand c.args.at.now c.args.s.now) (answer.Refused NoHandle) tt
+
+pub returns-clause-alters : goal.returns-clause-alters
+returns-clause-alters c = record { logged = tt; refused = λ h. absurd h; err = tt; grows = c.in_ok-zero.ensures.grows }

@@ -16,6 +16,7 @@ use Rattle.wtf_steps.proofs.Making.{makes_refused, makes_these, of_file}
 use Rattle.wtf_meta.specs.FileEdits.{edits_of}
 use Rattle.wtf_rw.specs.Changed.{CutsAt}
 use Rattle.wtf_rw.specs.Sizes.{cut_to}
+use Rattle.wtf_rw.proofs.MadeWays.{alters_nothing}
 use Rattle.wtf_rw.proofs.sizes.truncate.Goals as goal
 
 pub returns-in_default-clause-step : goal.returns-in_default-clause-step
@@ -74,3 +75,12 @@ returns-clause-made c =
     let edited = c.in_ok-cut.ensures.ok in
     makes_these (CutsAt z (handle_in s f) n) (edits_of i edited.edits) c.args.at.now c.cut.new.at edited.grows.changes
     (of_file (λ g ds. ds ≡ cut_to z n) (handle_in s f) open_at.handle i edited.edits open_at.is open_at.inode edited.does.exact)
+
+pub returns-in_default-clause-alters : goal.returns-in_default-clause-alters
+returns-in_default-clause-alters c = alters_nothing (in_hand c.args.at.now c.args.s.now) (answer.Refused NoHandle) tt
+
+pub returns-then-n-cap-clause-alters : goal.returns-then-n-cap-clause-alters
+returns-then-n-cap-clause-alters c = alters_nothing (in_hand c.args.at.now c.args.s.now) (answer.Refused TooBig) tt
+
+pub returns-clause-alters : goal.returns-clause-alters
+returns-clause-alters c = record { logged = tt; refused = λ h. absurd h; err = tt; grows = c.in_ok-cut.ensures.grows }

@@ -1,18 +1,22 @@
-use Rattle.std.proofs.Common.{◌≡◌, ℕ, ◌+◌, [], ◌∷◌, length, Option, Some, refl, sym, ap, ◌∙◌, subst, arith}
+use Rattle.std.proofs.Common.{◌≡◌, ℕ, ◌+◌, [], ◌∷◌, length, Option, Some, refl, sym, ap, ◌∙◌, subst, arith, inl, inr}
 use Rattle.std.specs.Option.{option_map}
 use Rattle.wtf_base.specs.declared.ids.InodeId.{InodeId}
+use Rattle.wtf_base.specs.declared.slice.Slice.{Slice}
 use Rattle.wtf_occ.proofs.AttemptLaws.{GrowsBy-nothing}
+use Rattle.wtf_model.specs.Steps.{IsLogged}
+use Rattle.wtf_model.specs.declared.answer.Answer.{Answer}
 use Rattle.wtf_model.specs.declared.answer.Answer.TheVariants as answer
 use Rattle.wtf_model.specs.declared.answer.Word.TheVariants.{NoHandle, TooBig}
 use Rattle.wtf_model.specs.declared.op.Op.TheVariants as op
 use Rattle.wtf_replica.specs.Bytes.{byte_at}
+use Rattle.wtf_replica.specs.Copies.{IsStored}
 use Rattle.wtf_meta.specs.declared.session.Handle.{Handle}
 use Rattle.wtf_meta.specs.Sessions.{handle_in, SetsHandle, moved_to}
 use Rattle.wtf_meta.specs.Calls.{cap_for}
 use Rattle.wtf_region.specs.declared.dev.Dev.{Dev}
 use Rattle.wtf_region.specs.Devs.{stores, between, place_in}
 use Rattle.wtf_region.specs.Edited.{Edited, LaysPieces}
-use Rattle.wtf_steps.specs.Steps.{in_hand}
+use Rattle.wtf_steps.specs.Steps.{in_hand, IsRefusal}
 use Rattle.wtf_model.proofs.ByteLaws.{write-none}
 use Rattle.wtf_steps.proofs.Ways.{no_handle, spot_open, spot_closed}
 use Rattle.wtf_steps.proofs.FileWays.{brings, writes}
@@ -25,9 +29,10 @@ use Rattle.wtf_steps.specs.Holding.{MovesOn}
 use Rattle.wtf_steps.proofs.Handing.{hand_refused, hand_stays, hand_goes, moves_on, moves_nowhere}
 use Rattle.wtf_steps.proofs.Leaving.{leaves_all, leaves_put}
 use Rattle.wtf_rw.specs.Ops.{file_in}
+use Rattle.wtf_rw.specs.Stored.{IsOwn}
 use Rattle.wtf_steps.proofs.Making.{makes_refused, lays_none, makes_laid}
 use Rattle.wtf_rw.specs.Changed.{OfSlice}
-use Rattle.wtf_rw.proofs.MadeWays.{brings_no_slice, brings_slice}
+use Rattle.wtf_rw.proofs.MadeWays.{brings_no_slice, brings_slice, some_none, puts_nothing, memory_short}
 use Rattle.wtf_meta.specs.Maps.{Edits}
 use Rattle.wtf_rw.proofs.writes.write_fresh.Goals as goal
 
@@ -217,3 +222,93 @@ returns-in-Err-lay-clause-leaves g c =
     leaves_put g.S.SliceStore.kind (between dev c.store_bytes.new.dev) o (file_in dev) open_at.handle (place_in dev spot.inode spot.off).file open_at.is
     (same_place dev spot open_at.handle open_at.inode open_at.off)
     c.in-Ok.ensures.down c.in-Ok.ensures.others c.in-Ok.ensures.syncs
+
+pub returns-in_default-clause-puts : goal.returns-in_default-clause-puts
+returns-in_default-clause-puts g c =
+    let s = c.args.s.now in
+    puts_nothing g.met.S.SliceStore.laws c.args.dev.now c.requires.sound (in_hand c.args.at.now s) (handle_in s c.args.f) c.args.bytes.now
+    c.only.result c.only.ensures.own
+    (subst (λ (a : Answer). IsLogged a) (sym c.only.ensures.answer) tt)
+    (inr (subst (λ (a : Answer). IsRefusal a) (sym c.only.ensures.answer) tt))
+
+pub returns-then-len-eq0-clause-puts : goal.returns-then-len-eq0-clause-puts
+returns-then-len-eq0-clause-puts g c =
+    let s = c.args.s.now in
+    puts_nothing g.met.S.SliceStore.laws c.args.dev.now c.requires.sound (in_hand c.args.at.now s) (handle_in s c.args.f) c.args.bytes.now
+    c.only-then-len-eq0.result c.only-then-len-eq0.ensures.own
+    (subst (λ (a : Answer). IsLogged a) (sym c.only-then-len-eq0.ensures.answer) tt)
+    (inl c.if-len-eq0.true)
+
+pub returns-then-not-ends_within-clause-puts : goal.returns-then-not-ends_within-clause-puts
+returns-then-not-ends_within-clause-puts g c =
+    let s = c.args.s.now in
+    puts_nothing g.met.S.SliceStore.laws c.args.dev.now c.requires.sound (in_hand c.args.at.now s) (handle_in s c.args.f) c.args.bytes.now
+    c.only-then-not-ends_within.result c.only-then-not-ends_within.ensures.own
+    (subst (λ (a : Answer). IsLogged a) (sym c.only-then-not-ends_within.ensures.answer) tt)
+    (inr (subst (λ (a : Answer). IsRefusal a) (sym c.only-then-not-ends_within.ensures.answer) tt))
+
+pub returns-in-Ok-lay-clause-puts : goal.returns-in-Ok-lay-clause-puts
+returns-in-Ok-lay-clause-puts g c =
+    let open_at = spot_open c.handle_of.result (handle_in c.args.s.now c.args.f) c.in-Some.spot c.handle_of.ensures c.in-Some.is in
+    record {
+      closed = λ shut. absurd (some_none open_at.handle (sym open_at.is ∙ shut));
+      lacks = λ none. absurd (some_none c.in-Ok.slice none);
+      done = λ some. refl;
+      logged = tt;
+      refused = λ h. absurd h;
+      fault = tt;
+      lists = c.in-Ok.ensures.lists;
+      err = tt;
+      grows = c.in-Ok-lay.ensures.grows;
+      dev = c.in-Ok.ensures.dev;
+    }
+
+pub returns-in-Err-lay-clause-puts : goal.returns-in-Err-lay-clause-puts
+returns-in-Err-lay-clause-puts g c = record {
+  closed = tt;
+  lacks = tt;
+  done = tt;
+  logged = tt;
+  refused = tt;
+  fault = memory_short g.S.SliceStore.kind c.args.dev.now c.store_bytes.new.dev c.args.bytes.now;
+  lists = c.in-Ok.ensures.lists;
+  err = c.in-Err-lay.ensures.err;
+  grows = c.in-Err-lay.ensures.grows;
+  dev = c.in-Ok.ensures.dev;
+}
+
+pub returns-in-Ok-lay-clause-own : goal.returns-in-Ok-lay-clause-own
+returns-in-Ok-lay-clause-own g c h e =
+    let dev = c.args.dev.now in
+    let slice = c.in-Ok.slice in
+    let spot = c.in-Some.spot in
+    let kind = g.S.SliceStore.kind in
+    let open_at = spot_open c.handle_of.result (handle_in c.args.s.now c.args.f) spot c.handle_of.ensures c.in-Some.is in
+    let both : Some open_at.handle ≡ Some h = sym open_at.is ∙ e in
+    let same : open_at.handle ≡ h = cc in
+    let inode : spot.inode ≡ h.inode = open_at.inode ∙ ap (λ (k : Handle). k.inode) same in
+    let off : spot.off ≡ h.off = open_at.off ∙ ap (λ (k : Handle). k.off) same in
+    let here = subst (λ (n : ℕ). IsStored kind (between dev c.store_bytes.new.dev) dev.settings.replicas (place_in dev spot.inode n) c.args.bytes.now slice)
+    off c.in-Ok.ensures.stored in (
+      subst (λ (i : InodeId). IsStored kind (between dev c.store_bytes.new.dev) dev.settings.replicas (place_in dev i h.off) c.args.bytes.now slice) inode here,
+      c.in-Ok.ensures.inside,
+      c.in-Ok.ensures.known,
+    )
+
+pub returns-in_default-clause-own : goal.returns-in_default-clause-own
+returns-in_default-clause-own g c h e =
+    let dev = c.args.dev.now in
+    subst (λ (o : Option Slice). IsOwn g.S.SliceStore.kind dev dev (place_in dev h.inode h.off) c.args.bytes.now o)
+    (sym c.only.ensures.own) refl
+
+pub returns-then-len-eq0-clause-own : goal.returns-then-len-eq0-clause-own
+returns-then-len-eq0-clause-own g c h e =
+    let dev = c.args.dev.now in
+    subst (λ (o : Option Slice). IsOwn g.S.SliceStore.kind dev dev (place_in dev h.inode h.off) c.args.bytes.now o)
+    (sym c.only-then-len-eq0.ensures.own) refl
+
+pub returns-then-not-ends_within-clause-own : goal.returns-then-not-ends_within-clause-own
+returns-then-not-ends_within-clause-own g c h e =
+    let dev = c.args.dev.now in
+    subst (λ (o : Option Slice). IsOwn g.S.SliceStore.kind dev dev (place_in dev h.inode h.off) c.args.bytes.now o)
+    (sym c.only-then-not-ends_within.ensures.own) refl

@@ -23,7 +23,7 @@ use Rattle.wtf_steps.proofs.Handing.{hand_refused, hand_stays, hand_goes, moves_
 use Rattle.wtf_rw.specs.Held.{held_len}
 use Rattle.wtf_steps.proofs.Making.{makes_refused, lays_none, makes_laid}
 use Rattle.wtf_rw.specs.Changed.{OfSlice}
-use Rattle.wtf_rw.proofs.MadeWays.{no_slice_kept, brings_no_slice, brings_slice}
+use Rattle.wtf_rw.proofs.MadeWays.{no_slice_kept, brings_no_slice, brings_slice, some_none, alters_nothing}
 use Rattle.wtf_meta.specs.Maps.{Edits}
 use Rattle.wtf_rw.proofs.writes.write_stored.Goals as goal
 
@@ -189,3 +189,21 @@ returns-clause-holds c =
     let len : p.len ≡ held_len c.args.kept.slice = c.piece_of.ensures.len ∙ sym (ap held_len c.in-Some-slice.is) in
     hand_goes answer.Okay (MovesOn f n) s t (λ h. h)
     (moves_on f (c.in-Some.spot.off + p.len) n s t open_at.handle open_at.is (omega (arith, open_at.off, len)) c.in_ok-lay.ensures.moved)
+
+pub returns-in_default-clause-alters : goal.returns-in_default-clause-alters
+returns-in_default-clause-alters c = alters_nothing (in_hand c.args.at.now c.args.s.now) (answer.Refused NoHandle) tt
+
+pub returns-then-kept-eq0-clause-alters : goal.returns-then-kept-eq0-clause-alters
+returns-then-kept-eq0-clause-alters c = alters_nothing (in_hand c.args.at.now c.args.s.now) answer.Okay tt
+
+pub returns-then-not-ends_within-clause-alters : goal.returns-then-not-ends_within-clause-alters
+returns-then-not-ends_within-clause-alters c = alters_nothing (in_hand c.args.at.now c.args.s.now) (answer.Refused TooBig) tt
+
+pub returns-in_default-slice-clause-alters : goal.returns-in_default-slice-clause-alters
+returns-in_default-slice-clause-alters c = alters_nothing (in_hand c.args.at.now c.args.s.now) answer.Okay tt
+
+pub returns-clause-alters : goal.returns-clause-alters
+returns-clause-alters c = record { logged = tt; refused = λ h. absurd h; err = tt; grows = c.in_ok-lay.ensures.grows }
+
+pub returns-clause-bare : goal.returns-clause-bare
+returns-clause-bare c none = absurd (some_none c.in-Some-slice.slice (sym c.in-Some-slice.is ∙ none))

@@ -6,7 +6,17 @@ use Rattle.wtf_values.specs.declared.value.Delta.{Delta}
 use Rattle.wtf_meta.specs.Maps.{seen}
 use Rattle.wtf_steps.proofs.InsideWays.{stays_inside}
 use Rattle.wtf_slicing.proofs.InsideSlices.{keeps_inside}
+use Rattle.wtf_slicing.proofs.Loops.{mark_within}
 use Rattle.wtf_slicing.proofs.calls.call.Goals as goal
+
+pub rewind-requires-clause-reads : goal.rewind-requires-clause-reads
+rewind-requires-clause-reads g c =
+    mark_within c.mark-mark.result.reads c.args.at.now.reads c.run.new.at.reads (ap (λ m. m.reads) c.mark-mark.ensures) c.in-Err.ensures.grows.reads
+
+pub rewind-requires-clause-changes : goal.rewind-requires-clause-changes
+rewind-requires-clause-changes g c =
+    mark_within c.mark-mark.result.changes c.args.at.now.changes c.run.new.at.changes (ap (λ m. m.changes) c.mark-mark.ensures)
+    c.in-Err.ensures.grows.changes
 
 pub returns-in-Ok-clause-inside : goal.returns-in-Ok-clause-inside
 returns-in-Ok-clause-inside g c counted =

@@ -3,6 +3,7 @@ use Rattle.wtf_base.specs.declared.fault.Fault.{Fault}
 use Rattle.wtf_base.specs.declared.ids.InodeId.{InodeId}
 use Rattle.wtf_kv.specs.Stores.{Store}
 use Rattle.wtf_occ.specs.Attempts.{Attempted, GrowsBy}
+use Rattle.wtf_occ.proofs.AttemptLaws.{Grows-on}
 use Rattle.wtf_overlay.specs.Origin.{pieces_len}
 use Rattle.wtf_overlay.specs.declared.part.Piece.{Piece}
 use Rattle.wtf_model.specs.declared.answer.Answer.TheVariants as answer
@@ -30,8 +31,8 @@ use Rattle.wtf_slicing.specs.Sources.{sources_of, lens_of, ReadsFiles, AreFilesR
 use Rattle.wtf_slicing.specs.Changed.{IsConcat}
 use Rattle.wtf_slicing.specs.Sights.{sight}
 use Rattle.wtf_slicing.proofs.CopyWays.{went_all}
-use Rattle.wtf_slicing.proofs.ConcatWays.{grown, gathers, all_keys, concat_keys_are, not_more, too_many, concats_nowhere, concats_nothing, concats_too_much}
-use Rattle.wtf_slicing.proofs.ConcatWays.{concats}
+use Rattle.wtf_slicing.proofs.ConcatWays.{grown, left_still, left_refused, gathers, all_keys, concat_keys_are, not_more, too_many}
+use Rattle.wtf_slicing.proofs.ConcatWays.{concats_nowhere, concats_nothing, concats_too_much, concats}
 use Rattle.wtf_slicing.proofs.DoneWays.{hand_same, done_refused}
 use Rattle.wtf_slicing.proofs.SliceWays.{step_looked}
 use Rattle.wtf_slicing.proofs.TakeFaults.{concat_due}
@@ -415,3 +416,79 @@ returns-in-Err-put_pieces-clause-left g c = record {
   reads = c.in-Ok-all_pieces.ensures.reads;
   dev = c.in-Ok-all_pieces.ensures.dev;
 }
+
+pub returns-in-Err-clause-left : goal.returns-in-Err-clause-left
+returns-in-Err-clause-left g c =
+    left_still g.met.S.SliceStore.laws c.args.dev.now c.requires.sound c.args.at.now c.target.new.at c.in-Err.ensures.grows
+
+pub returns-in-Ok-Err-clause-left : goal.returns-in-Ok-Err-clause-left
+returns-in-Ok-Err-clause-left g c =
+    let at = c.args.at.now in
+    let new = c.target.new.at in
+    left_refused g.met.S.SliceStore.laws c.args.dev.now c.requires.sound at new c.in-Ok-Err.word (search rules)
+    (keeps_changes at new _ c.in-Ok-Err.ensures.went) c.in-Ok-Err.ensures.grows
+
+pub returns-in-Err-sources-clause-left : goal.returns-in-Err-sources-clause-left
+returns-in-Err-sources-clause-left g c =
+    let at = c.args.at.now in
+    let new = c.sources.new.at in
+    left_still g.met.S.SliceStore.laws c.args.dev.now c.requires.sound at new
+    (Grows-on at c.target.new.at new c.in-Ok-Ok.ensures.grows c.in-Err-sources.ensures.grows)
+
+pub returns-in-Ok-Err-sources-clause-left : goal.returns-in-Ok-Err-sources-clause-left
+returns-in-Ok-Err-sources-clause-left g c =
+    let at = c.args.at.now in
+    let mid = c.target.new.at in
+    let new = c.sources.new.at in
+    left_refused g.met.S.SliceStore.laws c.args.dev.now c.requires.sound at new c.in-Ok-Err-sources.word (search rules)
+    (keeps_changes mid new _ c.in-Ok-Err-sources.ensures.went ∙ keeps_changes at mid _ c.in-Ok-Ok.ensures.went)
+    (Grows-on at mid new c.in-Ok-Ok.ensures.grows c.in-Ok-Err-sources.ensures.grows)
+
+pub returns-in-Err-total_len-clause-left : goal.returns-in-Err-total_len-clause-left
+returns-in-Err-total_len-clause-left g c =
+    let at = c.args.at.now in
+    let mid = c.target.new.at in
+    let new = c.total_len.new.at in
+    left_still g.met.S.SliceStore.laws c.args.dev.now c.requires.sound at new (Grows-on at mid new c.in-Ok-Ok.ensures.grows
+    (Grows-on mid c.sources.new.at new c.in-Ok-Ok-sources.ensures.grows c.in-Err-total_len.ensures.grows))
+
+pub returns-then-len-cap-clause-left : goal.returns-then-len-cap-clause-left
+returns-then-len-cap-clause-left g c =
+    let at = c.args.at.now in
+    let mid = c.target.new.at in
+    let far = c.sources.new.at in
+    let new = c.total_len.new.at in
+    left_refused g.met.S.SliceStore.laws c.args.dev.now c.requires.sound at new TooBig (search rules)
+    (keeps_changes far new _ c.in-Ok.ensures.went ∙ keeps_changes mid far _ c.in-Ok-Ok-sources.ensures.went
+    ∙ keeps_changes at mid _ c.in-Ok-Ok.ensures.went)
+    (Grows-on at mid new c.in-Ok-Ok.ensures.grows (Grows-on mid far new c.in-Ok-Ok-sources.ensures.grows c.in-Ok.ensures.grows))
+
+pub returns-in-Err-all_pieces-clause-left : goal.returns-in-Err-all_pieces-clause-left
+returns-in-Err-all_pieces-clause-left g c =
+    let mid = c.target.new.at in
+    let far = c.sources.new.at in
+    let new = c.all_pieces.new.at in
+    record {
+      logged = tt;
+      refused = tt;
+      grows = Grows-on c.args.at.now mid new c.in-Ok-Ok.ensures.grows (Grows-on mid far new c.in-Ok-Ok-sources.ensures.grows
+          (Grows-on far c.total_len.new.at new c.in-Ok.ensures.grows c.in-Err-all_pieces.ensures.grows));
+      reads = c.in-Err-all_pieces.ensures.reads;
+      dev = c.in-Err-all_pieces.ensures.dev;
+    }
+
+pub returns-in-Err-make_file-clause-left : goal.returns-in-Err-make_file-clause-left
+returns-in-Err-make_file-clause-left g c =
+    let mid = c.target.new.at in
+    let far = c.sources.new.at in
+    let read = c.total_len.new.at in
+    let new = c.make_file.new.at in
+    record {
+      logged = tt;
+      refused = tt;
+      grows = Grows-on c.args.at.now mid new c.in-Ok-Ok.ensures.grows (Grows-on mid far new c.in-Ok-Ok-sources.ensures.grows
+          (Grows-on far read new c.in-Ok.ensures.grows (Grows-on read c.all_pieces.new.at new c.in-Ok-all_pieces.ensures.grows
+          c.in-Err-make_file.ensures.grows)));
+      reads = c.in-Ok-all_pieces.ensures.reads;
+      dev = c.in-Ok-all_pieces.ensures.dev;
+    }

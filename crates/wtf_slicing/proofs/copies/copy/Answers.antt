@@ -1,6 +1,6 @@
 use Rattle.std.proofs.Common.{◌≡◌, ◌+◌, ℕ, List, [], ◌++◌, Option, Ok, Err, length, refl, sym, ap, ◌∙◌, subst}
 use Rattle.wtf_occ.specs.Attempts.{GrowsBy}
-use Rattle.wtf_occ.proofs.AttemptLaws.{Grows-by}
+use Rattle.wtf_occ.proofs.AttemptLaws.{Grows-by, Grows-on}
 use Rattle.wtf_model.specs.declared.answer.Answer.TheVariants as answer
 use Rattle.wtf_model.specs.declared.op.Op.TheVariants as op
 use Rattle.wtf_values.specs.declared.region.RegionValue.{RegionValue}
@@ -171,3 +171,35 @@ returns-clause-made c =
     (create_edits dir q new) (fill_edits new v.last (regions_of v)) c.in_ok-inode.ensures.went second third c.in_ok-make_file.ensures.went filled in
     makes_these (IsCopied b p q new) (create_edits dir q new ++ fill_edits new v.last (regions_of v)) at c.fill.new.at all.changes
     (sym (copy_made b p q dir i new e f))
+
+pub returns-in_err-dir-clause-grows : goal.returns-in_err-dir-clause-grows
+returns-in_err-dir-clause-grows c =
+    Grows-on c.args.at.now c.source.new.at c.target.new.at c.in_ok-inode.ensures.grows c.in_err-dir.ensures.grows
+
+pub returns-in-Err-2-clause-grows : goal.returns-in-Err-2-clause-grows
+returns-in-Err-2-clause-grows c =
+    Grows-on c.args.at.now c.source.new.at c.target.new.at c.in_ok-inode.ensures.grows c.in_ok-dir.ensures.grows
+
+pub returns-in_err-whole-clause-grows : goal.returns-in_err-whole-clause-grows
+returns-in_err-whole-clause-grows c =
+    let found = c.source.new.at in
+    let new = c.whole_file.new.at in
+    Grows-on c.args.at.now found new c.in_ok-inode.ensures.grows
+    (Grows-on found c.target.new.at new c.in_ok-dir.ensures.grows c.in_err-whole.ensures.grows)
+
+pub returns-in_err-make_file-clause-grows : goal.returns-in_err-make_file-clause-grows
+returns-in_err-make_file-clause-grows c =
+    let found = c.source.new.at in
+    let free = c.target.new.at in
+    let new = c.make_file.new.at in
+    Grows-on c.args.at.now found new c.in_ok-inode.ensures.grows (Grows-on found free new c.in_ok-dir.ensures.grows
+    (Grows-on free c.whole_file.new.at new c.in_ok-whole.ensures.grows c.in_err-make_file.ensures.grows))
+
+pub returns-in_err-fill-clause-grows : goal.returns-in_err-fill-clause-grows
+returns-in_err-fill-clause-grows c =
+    let found = c.source.new.at in
+    let free = c.target.new.at in
+    let read = c.whole_file.new.at in
+    let new = c.fill.new.at in
+    Grows-on c.args.at.now found new c.in_ok-inode.ensures.grows (Grows-on found free new c.in_ok-dir.ensures.grows
+    (Grows-on free read new c.in_ok-whole.ensures.grows (Grows-on read c.make_file.new.at new c.in_ok-make_file.ensures.grows c.in_err-fill.ensures.grows)))

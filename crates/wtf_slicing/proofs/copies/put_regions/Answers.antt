@@ -1,7 +1,7 @@
 use Rattle.std.proofs.Common.{◌≡◌, ◌+◌, ℕ, List, [], ◌∷◌, ◌++◌, Option, length, take, sym, ap, ◌∙◌, subst, arith}
-use Rattle.std.proofs.lemmas.List.{take_more, length-take-le}
+use Rattle.std.proofs.lemmas.List.{take_more, take_all, length-take-le}
 use Rattle.wtf_occ.specs.Attempts.{GrowsBy}
-use Rattle.wtf_occ.proofs.AttemptLaws.{GrowsBy-append}
+use Rattle.wtf_occ.proofs.AttemptLaws.{GrowsBy-append, Grows-by, Grows-on}
 use Rattle.wtf_values.specs.declared.region.RegionValue.{RegionValue}
 use Rattle.wtf_meta.specs.Maps.{Edits}
 use Rattle.wtf_slicing.specs.Copies.{put_region, put_regions}
@@ -33,3 +33,16 @@ loop-value-preserved c =
       went = subst (λ (es : Edits). GrowsBy at new [] es) (sym edits) (GrowsBy-append at mid new [] [] (put_regions i 0 (take n vs))
           (put_region i c.loop-value.r v) inv.went c.in_ok-put_region.ensures.went);
     }
+
+pub returns-in_err-put_region-clause-grows : goal.returns-in_err-put_region-clause-grows
+returns-in_err-put_region-clause-grows c =
+    let at = c.args.at.now in
+    let mid = c.loop-value.at in
+    let edits = put_regions c.args.inode 0 (take c.loop-value.value-index c.args.regions.now) in
+    Grows-on at mid c.put_region.new.at (Grows-by at mid [] edits c.loop-value.invariant.went) c.in_err-put_region.ensures.grows
+
+pub returns-clause-went : goal.returns-clause-went
+returns-clause-went c =
+    let vs : List (Option RegionValue) = c.args.regions.now in
+    subst (λ (l : List (Option RegionValue)). GrowsBy c.args.at.now c.loop-value.at [] (put_regions c.args.inode 0 l))
+    (take_all c.loop-value.value-index vs c.loop-value-test.false) c.loop-value.invariant.went

@@ -14,6 +14,7 @@ use Rattle.wtf_region.specs.Devs.{stores, is_down_in, inside_of, between}
 use Rattle.wtf_region.specs.Inside.{is_inside}
 use Rattle.wtf_region.specs.Showing.{Shown, IsShowFault, pieces_in, AreReadable}
 use Rattle.wtf_region.proofs.InsideLaws.{readable_from}
+use Rattle.wtf_region.proofs.ShowLaws.{reads_nothing}
 use Rattle.wtf_region.proofs.Spans.{goes_nowhere}
 use Rattle.wtf_steps.proofs.ReadWays.{shows}
 use Rattle.wtf_slicing.specs.Shown.{LacksSlice}
@@ -132,3 +133,59 @@ returns-clause-step g c x b now e =
         told = λ told. (part_tells g.met.S.SliceStore.laws c.in-Ok-show.ensures.dev.each ps out off n bytes within plans shown (told c.args.from ps is.is), tt);
       };
     }
+
+pub returns-in_default-clause-shows : goal.returns-in_default-clause-shows
+returns-in_default-clause-shows g c =
+    let dev = c.args.dev.now in
+    record {
+      same = refl;
+      logged = tt;
+      refused = λ h. refl;
+      lists = refl;
+      reads = reads_nothing g.S.SliceStore.kind (is_down_in dev) (stores dev);
+      dev = goes_nowhere g.met.S.SliceStore.laws dev c.requires.sound;
+    }
+
+pub returns-then-not-is_part-clause-shows : goal.returns-then-not-is_part-clause-shows
+returns-then-not-is_part-clause-shows g c =
+    let dev = c.args.dev.now in
+    record {
+      same = refl;
+      logged = tt;
+      refused = λ h. refl;
+      lists = refl;
+      reads = reads_nothing g.S.SliceStore.kind (is_down_in dev) (stores dev);
+      dev = goes_nowhere g.met.S.SliceStore.laws dev c.requires.sound;
+    }
+
+pub returns-in-Err-clause-shows : goal.returns-in-Err-clause-shows
+returns-in-Err-clause-shows g c =
+    let dev = c.args.dev.now in
+    record {
+      same = c.in-Err.ensures.same;
+      logged = tt;
+      refused = tt;
+      lists = refl;
+      reads = reads_nothing g.S.SliceStore.kind (is_down_in dev) (stores dev);
+      dev = goes_nowhere g.met.S.SliceStore.laws dev c.requires.sound;
+    }
+
+pub returns-in-Err-show-clause-shows : goal.returns-in-Err-show-clause-shows
+returns-in-Err-show-clause-shows g c = record {
+  same = c.in-Ok.ensures.same;
+  logged = tt;
+  refused = tt;
+  lists = c.in-Err-show.ensures.lists;
+  reads = c.in-Err-show.ensures.reads;
+  dev = c.in-Err-show.ensures.dev;
+}
+
+pub returns-clause-shows : goal.returns-clause-shows
+returns-clause-shows g c = record {
+  same = c.in-Ok.ensures.same;
+  logged = tt;
+  refused = λ h. absurd h;
+  lists = c.in-Ok-show.ensures.lists;
+  reads = c.in-Ok-show.ensures.reads;
+  dev = c.in-Ok-show.ensures.dev;
+}

@@ -1,7 +1,7 @@
 use Rattle.std.proofs.Common.{◌≡◌, ℕ, ◌++◌, List, [], Option, Some, refl, sym, ap, ◌∙◌, subst}
 use Rattle.std.specs.Option.{option_copied}
 use Rattle.wtf_base.specs.declared.ids.InodeId.{InodeId}
-use Rattle.wtf_occ.proofs.AttemptLaws.{GrowsBy-nothing}
+use Rattle.wtf_occ.proofs.AttemptLaws.{GrowsBy-nothing, Grows-by}
 use Rattle.wtf_overlay.specs.Origin.{pieces_len}
 use Rattle.wtf_overlay.specs.declared.part.Piece.{Piece}
 use Rattle.wtf_model.specs.declared.answer.Answer.{Answer}
@@ -18,7 +18,7 @@ use Rattle.wtf_steps.proofs.AppendWays.{added_keys, keys_due}
 use Rattle.wtf_steps.proofs.Ways.{no_handle, step_of, spot_open, spot_closed}
 use Rattle.wtf_slicing.specs.Recorded.{glue_keys}
 use Rattle.wtf_model.proofs.SliceLaws.{glue-none}
-use Rattle.wtf_slicing.proofs.LayWays.{glues_unset, step_glued}
+use Rattle.wtf_slicing.proofs.LayWays.{lays_short, glues_unset, step_glued}
 use Rattle.wtf_steps.specs.Steps.{answer_of}
 use Rattle.wtf_steps.specs.Made.{Makes, AddsAt}
 use Rattle.wtf_steps.proofs.Making.{makes_refused, makes_added}
@@ -110,3 +110,18 @@ returns-clause-made c =
     subst (λ (a : Answer). Makes a (AddsAt z b o (kept_pieces s c.args.label)) old new) (sym c.answer_to.ensures.value)
     (subst (λ (qs : List Piece). Makes (answer_of r) (AddsAt z b o qs) old new) (sym (kept_is s c.args.label ps there))
     (makes_added z b o open_at.handle spot.inode ps old new r open_at.is open_at.inode c.in_ok-added.ensures.added))
+
+pub returns-in_default-clause-lays : goal.returns-in_default-clause-lays
+returns-in_default-clause-lays c =
+    let at = c.args.at.now in
+    record { logged = tt; refused = λ h. refl; err = tt; grows = Grows-by at at [] [] (GrowsBy-nothing at) }
+
+pub returns-in_default-slice-clause-lays : goal.returns-in_default-slice-clause-lays
+returns-in_default-slice-clause-lays c =
+    let at = c.args.at.now in
+    record { logged = tt; refused = λ h. refl; err = tt; grows = Grows-by at at [] [] (GrowsBy-nothing at) }
+
+pub returns-in_err-added-clause-lays : goal.returns-in_err-added-clause-lays
+returns-in_err-added-clause-lays c =
+    let s = c.args.s.now in
+    lays_short (in_hand c.args.at.now s) (in_hand c.add_pieces.new.at s) c.from_residual.result c.from_residual.ensures.0 refl c.in_err-added.ensures.grows

@@ -1,7 +1,7 @@
 use Rattle.std.proofs.Common.{◌≡◌, ℕ, ◌+◌, ◌-◌, ◌*◌, ◌^◌, ◌<◌, ◌≤◌, min, List, [], Option, Some, refl, sym, ap, ◌∙◌, subst, arith}
 use Rattle.std.specs.Option.{option_copied, option_map}
 use Rattle.wtf_base.specs.declared.ids.InodeId.{InodeId}
-use Rattle.wtf_occ.proofs.AttemptLaws.{GrowsBy-nothing}
+use Rattle.wtf_occ.proofs.AttemptLaws.{GrowsBy-nothing, Grows-by}
 use Rattle.wtf_overlay.specs.Origin.{pieces_len}
 use Rattle.wtf_model.specs.declared.answer.Answer.TheVariants as answer
 use Rattle.wtf_model.specs.declared.answer.Word.TheVariants.{NoHandle, NoSlice, TooBig}
@@ -14,7 +14,7 @@ use Rattle.wtf_region.specs.Edited.{Edited, LaysPieces}
 use Rattle.wtf_steps.specs.Steps.{in_hand}
 use Rattle.wtf_steps.proofs.Ways.{no_handle, step_of, spot_open, spot_closed}
 use Rattle.wtf_model.proofs.SliceLaws.{paste-none}
-use Rattle.wtf_slicing.proofs.LayWays.{lays, pastes_unset, pastes_nothing, pastes_too_far, pastes}
+use Rattle.wtf_slicing.proofs.LayWays.{lays, lays_short, pastes_unset, pastes_nothing, pastes_too_far, pastes}
 use Rattle.wtf_overlay.specs.declared.part.Piece.{Piece}
 use Rattle.wtf_steps.specs.Made.{Makes, LaysAt}
 use Rattle.wtf_steps.proofs.Making.{makes_refused, makes_nothing, makes_laid}
@@ -180,3 +180,32 @@ returns-clause-holds c =
     hand_goes answer.Okay (Pastes f label) s c.move_handle.new.self (λ h. h)
     (moves_on f (spot.off + c.bytes_of-len.result) (λ h. pieces_len (kept_pieces s label)) s c.move_handle.new.self open_at.handle open_at.is
     (omega (arith, open_at.off, len, all)) c.move_handle.ensures)
+
+pub returns-in_default-clause-lays : goal.returns-in_default-clause-lays
+returns-in_default-clause-lays c =
+    let at = c.args.at.now in
+    record { logged = tt; refused = λ h. refl; err = tt; grows = Grows-by at at [] [] (GrowsBy-nothing at) }
+
+pub returns-in_default-slice-clause-lays : goal.returns-in_default-slice-clause-lays
+returns-in_default-slice-clause-lays c =
+    let at = c.args.at.now in
+    record { logged = tt; refused = λ h. refl; err = tt; grows = Grows-by at at [] [] (GrowsBy-nothing at) }
+
+pub returns-then-len-eq0-clause-lays : goal.returns-then-len-eq0-clause-lays
+returns-then-len-eq0-clause-lays c =
+    let at = c.args.at.now in
+    record { logged = tt; refused = λ h. absurd h; err = tt; grows = Grows-by at at [] [] (GrowsBy-nothing at) }
+
+pub returns-then-not-ends_within-clause-lays : goal.returns-then-not-ends_within-clause-lays
+returns-then-not-ends_within-clause-lays c =
+    let at = c.args.at.now in
+    record { logged = tt; refused = λ h. refl; err = tt; grows = Grows-by at at [] [] (GrowsBy-nothing at) }
+
+pub returns-in_err-put_pieces-clause-lays : goal.returns-in_err-put_pieces-clause-lays
+returns-in_err-put_pieces-clause-lays c =
+    let s = c.args.s.now in
+    lays_short (in_hand c.args.at.now s) (in_hand c.put_pieces.new.at s) c.from_residual.result c.from_residual.ensures.0 refl
+    c.in_err-put_pieces.ensures.grows
+
+pub returns-clause-lays : goal.returns-clause-lays
+returns-clause-lays c = record { logged = tt; refused = λ h. absurd h; err = tt; grows = c.in_ok-put_pieces.ensures.grows }

@@ -1,7 +1,8 @@
 use Rattle.std.proofs.Common.{◌≡◌, ◌+◌, ℕ, List, [], ◌∷◌, ◌++◌, Ok, Err, take, drop, sym, ap, ◌∙◌, subst}
-use Rattle.std.proofs.lemmas.List.{take_more}
+use Rattle.std.proofs.lemmas.List.{take_more, take_all}
 use Rattle.wtf_base.specs.declared.ids.InodeId.{InodeId}
 use Rattle.wtf_occ.specs.Attempts.{GrowsBy}
+use Rattle.wtf_occ.proofs.AttemptLaws.{Grows-by, Grows-on}
 use Rattle.wtf_values.specs.declared.key.Key.{Key}
 use Rattle.wtf_meta.specs.Maps.{Map, seen}
 use Rattle.wtf_index.specs.Checks.{source_of}
@@ -11,6 +12,27 @@ use Rattle.wtf_slicing.specs.Recorded.{sources_keys}
 use Rattle.wtf_slicing.specs.Sources.{sources_of}
 use Rattle.wtf_slicing.proofs.Loops.{split_at, sources_more, sources_stop, sources_keys-append, keys_one, keys_stop}
 use Rattle.wtf_slicing.proofs.sources.sources.Goals as goal
+
+pub returns-in_err-inode-clause-grows : goal.returns-in_err-inode-clause-grows
+returns-in_err-inode-clause-grows c =
+    let at = c.args.at.now in
+    let mid = c.loop-path.at in
+    let keys = sources_keys (seen c.args.kv.now at) (take c.loop-path.path-index c.args.paths.now) in
+    Grows-on at mid c.source.new.at (Grows-by at mid keys [] c.loop-path.invariant.went) c.in_err-inode.ensures.grows
+
+pub returns-in_err-push-in-Ok-clause-grows : goal.returns-in_err-push-in-Ok-clause-grows
+returns-in_err-push-in-Ok-clause-grows c =
+    let at = c.args.at.now in
+    let mid = c.loop-path.at in
+    let keys = sources_keys (seen c.args.kv.now at) (take c.loop-path.path-index c.args.paths.now) in
+    Grows-on at mid c.source.new.at (Grows-by at mid keys [] c.loop-path.invariant.went) c.in_ok-inode.ensures.grows
+
+pub returns-in-Err-clause-grows : goal.returns-in-Err-clause-grows
+returns-in-Err-clause-grows c =
+    let at = c.args.at.now in
+    let mid = c.loop-path.at in
+    let keys = sources_keys (seen c.args.kv.now at) (take c.loop-path.path-index c.args.paths.now) in
+    Grows-on at mid c.source.new.at (Grows-by at mid keys [] c.loop-path.invariant.went) c.in_ok-inode.ensures.grows
 
 pub returns-in-Err-clause-refused : goal.returns-in-Err-clause-refused
 returns-in-Err-clause-refused c =
@@ -64,3 +86,18 @@ loop-path-preserved c =
       went = subst (λ (qs : List Key). GrowsBy c.args.at.now c.source.new.at qs []) (sym keys)
           (keys_more c.args.at.now c.loop-path.at c.source.new.at (sources_keys b (take n ps)) (source_keys p) inv.went c.in_ok-inode.ensures.went);
     }
+
+pub returns-clause-found : goal.returns-clause-found
+returns-clause-found c =
+    let b : Map = seen c.args.kv.now c.args.at.now in
+    let ps : List (List ℕ) = c.args.paths.now in
+    subst (λ (l : List (List ℕ)). sources_of b l ≡ Ok c.loop-path.inodes.items) (take_all c.loop-path.path-index ps c.loop-path-test.false)
+    c.loop-path.invariant.found
+
+pub returns-clause-went : goal.returns-clause-went
+returns-clause-went c =
+    let at = c.args.at.now in
+    let b : Map = seen c.args.kv.now at in
+    let ps : List (List ℕ) = c.args.paths.now in
+    subst (λ (l : List (List ℕ)). GrowsBy at c.loop-path.at (sources_keys b l) []) (take_all c.loop-path.path-index ps c.loop-path-test.false)
+    c.loop-path.invariant.went

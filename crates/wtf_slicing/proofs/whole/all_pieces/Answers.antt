@@ -1,11 +1,15 @@
-use Rattle.std.proofs.Common.{◌≡◌, ◌+◌, ◌*◌, ◌≤◌, List, [], ◌∷◌, ◌++◌, take, drop, refl, sym, ap, ◌∙◌, subst, inl, inr}
-use Rattle.std.specs.Prelude.{slice_index_or}
-use Rattle.std.proofs.lemmas.List.{take_more, take-append-drop, drop_more}
+use Rattle.std.proofs.Common.{◌≡◌, ℕ, ◌+◌, ◌*◌, ◌≤◌, List, [], ◌∷◌, ◌++◌, take, drop, refl, sym, ap, ◌∙◌, subst, inl, inr}
+use Rattle.std.specs.Prelude.{slice_index_or, IsTrue}
+use Rattle.std.proofs.lemmas.List.{take_more, take_all, take-append-drop, drop_more}
 use Rattle.wtf_base.specs.declared.ids.InodeId.{InodeId}
 use Rattle.wtf_base.specs.declared.settings.Settings.{Settings}
+use Rattle.wtf_kv.specs.Stores.{is_pinned}
+use Rattle.wtf_occ.specs.Attempts.{Attempted, Grows}
 use Rattle.wtf_occ.proofs.AttemptLaws.{GrowsBy-nothing, Grows-by, Grows-on}
 use Rattle.wtf_overlay.specs.declared.part.Piece.{Piece}
 use Rattle.wtf_model.specs.declared.limits.TheConstants.{MAX_REGIONS}
+use Rattle.wtf_values.specs.declared.key.Key.{Key}
+use Rattle.wtf_values.specs.declared.value.Delta.{Delta}
 use Rattle.wtf_meta.specs.Maps.{Map, seen}
 use Rattle.wtf_meta.specs.Bytes.{FileBytes, any_slice}
 use Rattle.wtf_meta.specs.Files.{file_len}
@@ -17,8 +21,12 @@ use Rattle.wtf_region.proofs.ShowLaws.{reads_nothing, reads_over}
 use Rattle.wtf_region.proofs.Spans.{goes_nowhere, goes_on}
 use Rattle.wtf_slicing.specs.Sources.{lens_of, AreFilesRead}
 use Rattle.wtf_slicing.proofs.FileReads.{map_later, files_none, files_on}
-use Rattle.wtf_slicing.proofs.Loops.{lens_one, le-trans}
+use Rattle.wtf_slicing.proofs.Loops.{lens_one, le-trans, mark_within}
 use Rattle.wtf_slicing.proofs.whole.all_pieces.Goals as goal
+
+pub file_pieces-requires-clause-pinned : goal.file_pieces-requires-clause-pinned
+file_pieces-requires-clause-pinned g c =
+    subst (λ (base : ℕ). IsTrue (is_pinned c.args.kv.now base)) (sym c.loop-inode.invariant.grows.base) c.requires.pinned
 
 pub file_pieces-requires-clause-cap : goal.file_pieces-requires-clause-cap
 file_pieces-requires-clause-cap g c =
@@ -84,6 +92,24 @@ returns-in-Err-clause-fault g c =
       })
     ]
 
+pub returns-in-Err-clause-grows : goal.returns-in-Err-clause-grows
+returns-in-Err-clause-grows g c =
+    Grows-on c.args.at.now c.loop-inode.at c.file_pieces.new.at c.loop-inode.invariant.grows c.in-Err.ensures.grows
+
+pub returns-in-Err-clause-reads : goal.returns-in-Err-clause-reads
+returns-in-Err-clause-reads g c =
+    let inv = c.loop-inode.invariant in
+    reads_over g.S.SliceStore.kind c.args.dev.now c.loop-inode.dev c.file_pieces.new.dev inv.each inv.reads c.in-Err.ensures.reads
+
+pub returns-in-Err-append-clause-grows : goal.returns-in-Err-append-clause-grows
+returns-in-Err-append-clause-grows g c =
+    Grows-on c.args.at.now c.loop-inode.at c.file_pieces.new.at c.loop-inode.invariant.grows c.in-Ok.ensures.grows
+
+pub returns-in-Err-append-clause-reads : goal.returns-in-Err-append-clause-reads
+returns-in-Err-append-clause-reads g c =
+    let inv = c.loop-inode.invariant in
+    reads_over g.S.SliceStore.kind c.args.dev.now c.loop-inode.dev c.file_pieces.new.dev inv.each inv.reads c.in-Ok.ensures.reads
+
 pub returns-in-Err-clause-dev : goal.returns-in-Err-clause-dev
 returns-in-Err-clause-dev g c = goes_on g.met.S.SliceStore.laws c.loop-inode.invariant.each c.in-Err.ensures.dev
 
@@ -122,3 +148,28 @@ loop-inode-preserved g c =
       reads = reads_over g.S.SliceStore.kind c.args.dev.now c.loop-inode.dev c.file_pieces.new.dev inv.each inv.reads c.in-Ok.ensures.reads;
       each = goes_on g.met.S.SliceStore.laws inv.each c.in-Ok.ensures.dev;
     }
+
+pub rewind-requires-clause-reads : goal.rewind-requires-clause-reads
+rewind-requires-clause-reads g c =
+    mark_within c.mark-mark.result.reads c.args.at.now.reads c.loop-inode.at.reads (ap (λ m. m.reads) c.mark-mark.ensures)
+    c.loop-inode.invariant.grows.reads
+
+pub rewind-requires-clause-changes : goal.rewind-requires-clause-changes
+rewind-requires-clause-changes g c =
+    mark_within c.mark-mark.result.changes c.args.at.now.changes c.loop-inode.at.changes (ap (λ m. m.changes) c.mark-mark.ensures)
+    c.loop-inode.invariant.grows.changes
+
+pub returns-clause-read : goal.returns-clause-read
+returns-clause-read g c =
+    let is : List InodeId = c.args.inodes.now in
+    subst (λ (l : List InodeId). AreFilesRead g.S.SliceStore.kind c.args.dev.now c.loop-inode.dev (seen c.args.kv.now c.args.at.now) l
+    c.loop-inode.out.items) (take_all c.loop-inode.inode-index is c.loop-inode-test.false) c.loop-inode.invariant.read
+
+pub returns-clause-same : goal.returns-clause-same
+returns-clause-same g c = c.rewind.ensures.back c.args.at.now c.loop-inode.invariant.grows c.mark-mark.ensures
+
+pub returns-clause-grows : goal.returns-clause-grows
+returns-clause-grows g c =
+    let was = c.args.at.now in
+    subst (λ (at : Attempted Key Delta). Grows was at) (sym (c.rewind.ensures.back was c.loop-inode.invariant.grows c.mark-mark.ensures))
+    (Grows-by was was [] [] (GrowsBy-nothing was))

@@ -1,8 +1,9 @@
 use Rattle.std.proofs.Common.{◌≡◌, ◌+◌, ◌-◌, ◌*◌, ◌^◌, ℕ, min, List, [], ◌∷◌, ◌++◌, take, sym, ap, ◌∙◌, subst, arith}
 use Rattle.std.specs.Prelude.{slice_index_or}
-use Rattle.std.proofs.lemmas.List.{take_more}
+use Rattle.std.proofs.lemmas.List.{take_more, take_all}
 use Rattle.wtf_base.specs.declared.ids.InodeId.{InodeId}
 use Rattle.wtf_occ.specs.Attempts.{GrowsBy}
+use Rattle.wtf_occ.proofs.AttemptLaws.{Grows-by, Grows-on}
 use Rattle.wtf_values.specs.declared.key.Key.{Key}
 use Rattle.wtf_meta.specs.Maps.{Map, seen}
 use Rattle.wtf_meta.specs.Files.{end_of, file_len}
@@ -47,3 +48,23 @@ loop-inode-preserved c =
       went = subst (λ (qs : List Key). GrowsBy at c.whole_file.new.at qs []) (sym keys) (keys_more at mid c.whole_file.new.at (files_keys b (take n is))
           (file_keys b i) inv.went here);
     }
+
+pub returns-in_err-whole-clause-grows : goal.returns-in_err-whole-clause-grows
+returns-in_err-whole-clause-grows c =
+    let at = c.args.at.now in
+    let mid = c.loop-inode.at in
+    let keys = files_keys (seen c.args.kv.now at) (take c.loop-inode.inode-index c.args.inodes.now) in
+    Grows-on at mid c.whole_file.new.at (Grows-by at mid keys [] c.loop-inode.invariant.went) c.in_err-whole.ensures.grows
+
+pub returns-clause-value : goal.returns-clause-value
+returns-clause-value c =
+    let is : List InodeId = c.args.inodes.now in
+    subst (λ (l : List InodeId). c.loop-inode.sum ≡ min (lens_of c.args.settings.region (seen c.args.kv.now c.args.at.now) l) (2 ^ 64 - 1))
+    (take_all c.loop-inode.inode-index is c.loop-inode-test.false) c.loop-inode.invariant.sum
+
+pub returns-clause-went : goal.returns-clause-went
+returns-clause-went c =
+    let at = c.args.at.now in
+    let is : List InodeId = c.args.inodes.now in
+    subst (λ (l : List InodeId). GrowsBy at c.loop-inode.at (files_keys (seen c.args.kv.now at) l) [])
+    (take_all c.loop-inode.inode-index is c.loop-inode-test.false) c.loop-inode.invariant.went

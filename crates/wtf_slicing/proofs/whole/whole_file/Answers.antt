@@ -1,15 +1,30 @@
 use Rattle.std.proofs.Common.{◌≡◌, ◌+◌, ◌-◌, ℕ, List, [], ◌∷◌, ◌++◌, Option, map, sym, ap, ◌∙◌, arith}
+use Rattle.wtf_occ.proofs.AttemptLaws.{Grows-by, Grows-on}
 use Rattle.wtf_values.specs.declared.region.RegionValue.{RegionValue}
 use Rattle.wtf_meta.specs.Maps.{Map, seen}
 use Rattle.wtf_meta.specs.Files.{end_of}
 use Rattle.wtf_meta.specs.FileEdits.{file_of}
-use Rattle.wtf_meta.specs.Appends.{OfLast, region_keys, count_from}
+use Rattle.wtf_meta.specs.Appends.{OfLast, keys_of, region_keys, count_from}
 use Rattle.wtf_region.proofs.Recording.{still_seen}
 use Rattle.wtf_slicing.proofs.Loops.{recorded_next, regions_next}
 use Rattle.wtf_slicing.proofs.whole.whole_file.Goals as goal
 
 back : (n : ℕ) → n ≡ n + 1 - 1
 back n = omega arith
+
+pub returns-in_err-value-clause-grows : goal.returns-in_err-value-clause-grows
+returns-in_err-value-clause-grows c =
+    let at = c.args.at.now in
+    let mid = c.loop-r.at in
+    let keys = keys_of c.args.inode (OfLast ∷ region_keys (count_from 0 c.loop-r.r)) in
+    Grows-on at mid c.region_at.new.at (Grows-by at mid keys [] c.loop-r.invariant.recorded) c.in_err-value.ensures.grows
+
+pub returns-in_err-push-clause-grows : goal.returns-in_err-push-clause-grows
+returns-in_err-push-clause-grows c =
+    let at = c.args.at.now in
+    let mid = c.loop-r.at in
+    let keys = keys_of c.args.inode (OfLast ∷ region_keys (count_from 0 c.loop-r.r)) in
+    Grows-on at mid c.region_at.new.at (Grows-by at mid keys [] c.loop-r.invariant.recorded) c.in_ok-value.ensures.grows
 
 pub loop-r-preserved : goal.loop-r-preserved
 loop-r-preserved c =

@@ -3,7 +3,7 @@ use Rattle.std.specs.Option.{option_map}
 use Rattle.wtf_base.specs.declared.fault.Fault.{Fault}
 use Rattle.wtf_base.specs.declared.ids.InodeId.{InodeId}
 use Rattle.wtf_occ.specs.Attempts.{GrowsBy}
-use Rattle.wtf_occ.proofs.AttemptLaws.{GrowsBy-nothing}
+use Rattle.wtf_occ.proofs.AttemptLaws.{GrowsBy-nothing, Grows-by, Grows-on}
 use Rattle.wtf_model.specs.declared.answer.Answer.TheVariants as answer
 use Rattle.wtf_model.specs.declared.answer.Word.TheVariants.{NoHandle}
 use Rattle.wtf_model.specs.declared.op.Op.TheVariants as op
@@ -16,8 +16,10 @@ use Rattle.wtf_meta.specs.Appends.{keys_of, region_keys, touched, length_keys}
 use Rattle.wtf_meta.specs.Sessions.{handle_in, SetsHandle, moved_to}
 use Rattle.wtf_meta.specs.Calls.{cap_for}
 use Rattle.wtf_meta.proofs.Named.{file_bytes}
-use Rattle.wtf_region.specs.Devs.{inside_of}
+use Rattle.wtf_region.specs.Devs.{inside_of, is_down_in, stores}
 use Rattle.wtf_region.proofs.Recording.{still_seen}
+use Rattle.wtf_region.proofs.ShowLaws.{reads_nothing}
+use Rattle.wtf_region.proofs.Spans.{goes_nowhere}
 use Rattle.wtf_steps.specs.Faults.{MayFault}
 use Rattle.wtf_steps.specs.Recorded.{found_in, len_keys}
 use Rattle.wtf_steps.specs.Steps.{in_hand}
@@ -230,3 +232,48 @@ returns-clause-done g c made =
           (keeps_changes read new _ c.in-Ok-pieces.ensures.recorded ∙ keeps_changes at read _ c.in-Ok.ensures.recorded);
       holds = hand_goes (answer.Len k) (SliceHolds x (Yank f n label)) s t (λ h. h) kept;
     }
+
+pub returns-in_default-clause-takes : goal.returns-in_default-clause-takes
+returns-in_default-clause-takes g c =
+    let dev = c.args.dev.now in
+    let at = c.args.at.now in
+    record {
+      logged = tt;
+      refused = λ h. (refl, refl);
+      err = tt;
+      grows = Grows-by at at [] [] (GrowsBy-nothing at);
+      reads = reads_nothing g.S.SliceStore.kind (is_down_in dev) (stores dev);
+      dev = goes_nowhere g.met.S.SliceStore.laws dev c.requires.sound;
+    }
+
+pub returns-in-Err-clause-takes : goal.returns-in-Err-clause-takes
+returns-in-Err-clause-takes g c =
+    let dev = c.args.dev.now in
+    record {
+      logged = tt;
+      refused = tt;
+      err = refl;
+      grows = c.in-Err.ensures.grows;
+      reads = reads_nothing g.S.SliceStore.kind (is_down_in dev) (stores dev);
+      dev = goes_nowhere g.met.S.SliceStore.laws dev c.requires.sound;
+    }
+
+pub returns-in-Err-pieces-clause-takes : goal.returns-in-Err-pieces-clause-takes
+returns-in-Err-pieces-clause-takes g c = record {
+  logged = tt;
+  refused = tt;
+  err = refl;
+  grows = Grows-on c.args.at.now c.file_len.new.at c.pieces.new.at c.in-Ok.ensures.grows c.in-Err-pieces.ensures.grows;
+  reads = c.in-Err-pieces.ensures.reads;
+  dev = c.in-Err-pieces.ensures.dev;
+}
+
+pub returns-clause-takes : goal.returns-clause-takes
+returns-clause-takes g c = record {
+  logged = tt;
+  refused = λ h. absurd h;
+  err = tt;
+  grows = Grows-on c.args.at.now c.file_len.new.at c.pieces.new.at c.in-Ok.ensures.grows c.in-Ok-pieces.ensures.grows;
+  reads = c.in-Ok-pieces.ensures.reads;
+  dev = c.in-Ok-pieces.ensures.dev;
+}

@@ -22,6 +22,7 @@ use Rattle.wtf_meta.specs.Calls.{Caller}
 use Rattle.wtf_region.specs.Devs.{stores}
 use Rattle.wtf_region.specs.Inside.{is_inside}
 use Rattle.wtf_rw.specs.Stored.{SliceBytes, TellSlice}
+use Rattle.wtf_rw.proofs.AppendWays.{mark_within}
 use Rattle.wtf_replay.specs.Views.{TxnView, hand_of}
 use Rattle.wtf_replay.specs.Called.{IsCalled}
 use Rattle.wtf_replay.specs.Refusals.{unmade}
@@ -50,6 +51,19 @@ kept_of-kept-requires-clause-own g c =
 
 pub note-requires-clause-logged : goal.note-requires-clause-logged
 note-requires-clause-logged g c = c.in-Ok.ensures.made.first.logged
+
+pub note-requires-clause-room : goal.note-requires-clause-room
+note-requires-clause-room g c = subst (λ (y : TxnView). length y.log.ops ≢ MAX_LOGGED) (sym c.self.view_is) c.requires.room
+
+pub rewind-requires-clause-reads : goal.rewind-requires-clause-reads
+rewind-requires-clause-reads g c =
+    mark_within c.mark-mark.result.reads c.self.inside.at.reads c.make_fresh.new.at.reads (ap (λ m. m.reads) c.mark-mark.ensures)
+    c.in-Ok.ensures.made.grows.reads
+
+pub rewind-requires-clause-changes : goal.rewind-requires-clause-changes
+rewind-requires-clause-changes g c =
+    mark_within c.mark-mark.result.changes c.self.inside.at.changes c.make_fresh.new.at.changes (ap (λ m. m.changes) c.mark-mark.ensures)
+    c.in-Ok.ensures.made.grows.changes
 
 pub returns : goal.returns
 returns g c =

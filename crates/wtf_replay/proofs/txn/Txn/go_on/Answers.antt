@@ -3,11 +3,26 @@ use Rattle.wtf_occ.specs.Attempts.{Attempted}
 use Rattle.wtf_values.specs.declared.key.Key.{Key}
 use Rattle.wtf_values.specs.declared.value.Delta.{Delta}
 use Rattle.wtf_meta.specs.Sessions.{SessionView}
+use Rattle.wtf_rw.proofs.AppendWays.{mark_within}
+use Rattle.wtf_replay.specs.Fits.{IsLog}
 use Rattle.wtf_replay.specs.Views.{TxnView, replaying}
 use Rattle.wtf_replay.specs.Tried.{commit_from}
 use Rattle.wtf_replay.specs.Verbs.{turn, FinishOf, CommitOf, CanCommit, ended_by}
 use Rattle.wtf_replay.proofs.Committing.{starts_here, commit_by}
 use Rattle.wtf_replay.proofs.txn.Txn.go_on.Goals as goal
+
+pub finish-ended-requires-clause-log : goal.finish-ended-requires-clause-log
+finish-ended-requires-clause-log g c = subst (λ (y : TxnView). IsLog y.log) (sym c.self.view_is) c.requires.ready.fit.log
+
+pub rewind-requires-clause-reads : goal.rewind-requires-clause-reads
+rewind-requires-clause-reads g c =
+    mark_within c.mark-mark.result.reads c.self.inside.at.reads c.finish-ended.new.at.reads (ap (λ m. m.reads) c.mark-mark.ensures)
+    c.finish-ended.ensures.grows.reads
+
+pub rewind-requires-clause-changes : goal.rewind-requires-clause-changes
+rewind-requires-clause-changes g c =
+    mark_within c.mark-mark.result.changes c.self.inside.at.changes c.finish-ended.new.at.changes (ap (λ m. m.changes) c.mark-mark.ensures)
+    c.finish-ended.ensures.grows.changes
 
 pub returns : goal.returns
 returns g c =

@@ -7,6 +7,7 @@ use Rattle.wtf_values.specs.declared.value.Delta.{Delta}
 use Rattle.wtf_values.specs.Keys.{key_cmp}
 use Rattle.wtf_meta.specs.Maps.{metadata_at}
 use Rattle.wtf_meta.specs.Sessions.{SessionView}
+use Rattle.wtf_replay.specs.Fits.{IsLog}
 use Rattle.wtf_replay.specs.Views.{TxnView, replaying, rebased, untouched}
 use Rattle.wtf_replay.specs.Tried.{KeepsPins, commit_from}
 use Rattle.wtf_replay.specs.Verbs.{turn, FinishOf, CommitOf, CanCommit, ended_by}
@@ -69,3 +70,6 @@ unpin-requires g c =
     let n = c.number-number.result in
     pinned_there kv pinned c.finish-ended.new.kv n (subst (λ m. IsPinnedOnceMore m kv pinned) (sym c.number-number.ensures.number) c.in-Ok.ensures.pinned)
     c.finish-ended.ensures.made.pins
+
+pub finish-ended-requires-clause-log : goal.finish-ended-requires-clause-log
+finish-ended-requires-clause-log g c = subst (λ (y : TxnView). IsLog y.log) (sym c.self.view_is) c.requires.ready.fit.log

@@ -10,7 +10,7 @@ use Rattle.wtf_model.specs.declared.answer.Answer.TheVariants as answer
 use Rattle.wtf_region.specs.Devs.{stores}
 use Rattle.wtf_replay.specs.Views.{TxnView, hand_of}
 use Rattle.wtf_replay.specs.Refusals.{step_refusal}
-use Rattle.wtf_replay.specs.Fits.{IsFit}
+use Rattle.wtf_replay.specs.Fits.{IsFit, IsLog}
 use Rattle.wtf_replay.specs.Insides.{IsInsideTxn, NamesTxn}
 use Rattle.wtf_replay.specs.Verbs.{turn, StepOf}
 use Rattle.wtf_replay.specs.Works.{work}
@@ -21,6 +21,9 @@ use Rattle.wtf_replay.proofs.Naming.{named_by}
 use Rattle.wtf_replay.proofs.Stepping.{next_named, next_fit, next_told, next_due, next_redoes, again_inside}
 use Rattle.wtf_replay.proofs.Turning.{if_none, step_none, put_back}
 use Rattle.wtf_replay.proofs.txn.Txn.step_next.Goals as goal
+
+pub make_again-requires-clause-log : goal.make_again-requires-clause-log
+make_again-requires-clause-log g c = subst (λ (y : TxnView). IsLog y.log) (sym c.self.view_is) c.requires.fit.log
 
 pub returns-then-same : goal.returns-then-same
 unfolding next_redoes
