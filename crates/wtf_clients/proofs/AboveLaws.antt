@@ -1,18 +1,8 @@
 -- Which keys have a version above a number: none above the last one, what an install adds, and nothing of what is dropped.
-use Rattle.std.proofs.Common.{◌≡◌, ◌⊎◌, ◌<◌, ◌≤◌, ℕ, Bool, true, false, cond, nat_lt, nat_le, List, [], ◌∷◌, ◌++◌, Option, None, Some, refl, sym, ap, ◌∙◌}
-use Rattle.std.proofs.Common.{inl, inr, ⊎_elim, arith}
-use Rattle.std.specs.List.{list_any}
-use Rattle.std.proofs.lemmas.Bool.{cases_Bool, or_cases, or_left, or_right, or_from, lt-ltb, leb-true, le-ltb}
-use Rattle.wtf_kv.specs.Seen.{last_seen, number_seen, reported, is_reported, is_kept, kept_versions, upto}
-use Rattle.wtf_kv.specs.Stores.{Store, versions_in, versions_of, version_of}
-use Rattle.wtf_kv.specs.Edits.{after_changes, makes_version, versions_with}
-use Rattle.wtf_kv.proofs.KeptLaws.{among_any, seen_among}
-use Rattle.wtf_values.specs.declared.key.Key.{Key}
-use Rattle.wtf_values.specs.declared.value.Value.{Value}
-use Rattle.wtf_values.specs.Keys.{key_cmp}
-use Rattle.wtf_values.specs.Outcomes.{outcome_of}
-use Rattle.wtf_meta.specs.Maps.{Map, Edits}
-use Rattle.wtf_clients.specs.Touched.{above}
+use Rattle.wtf_clients.proofs.Common.{list_any, cases_Bool, or_cases, or_left, or_right, or_from, lt-ltb, leb-true, le-ltb, last_seen, number_seen, reported}
+use Rattle.wtf_clients.proofs.Common.{is_reported, is_kept, kept_versions, upto, Store, versions_in, versions_of, version_of, after_changes, makes_version}
+use Rattle.wtf_clients.proofs.Common.{versions_with, among_any, seen_among, Key, Value, key_cmp, outcome_of, Map, Edits, above, ◌≡◌, ◌⊎◌, ◌<◌, ◌≤◌, ℕ, Bool}
+use Rattle.wtf_clients.proofs.Common.{true, false, cond, nat_lt, nat_le, List, [], ◌∷◌, ◌++◌, Option, None, Some, refl, sym, ap, ◌∙◌, inl, inr, ⊎_elim, arith}
 
 abbrev Versions : Type 0
 Versions = List (ℕ × Option Value)

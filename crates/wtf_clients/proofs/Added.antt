@@ -1,48 +1,10 @@
 -- Each byte of what a call stored was added by it, and the log keeps it.
-use Rattle.std.proofs.Common.{◌≡◌, ℕ, ◌+◌, ◌<◌, ◌≤◌, Bool, true, not, List, [], ◌∷◌, ◌++◌, length, Option, None, Some, refl, sym, ap, ◌∙◌, subst, ⊎_elim, arith}
-use Rattle.std.specs.List.{All}
-use Rattle.std.specs.Option.{option_map, unwrap_or}
-use Rattle.std.proofs.lemmas.Bool.{cases_lt, cases_Bool, and_from}
-use Rattle.std.proofs.lemmas.List.{length-map}
-use Rattle.std.proofs.lemmas.Option.{slice_get_past}
-use Rattle.std.proofs.lemmas.List.Elements.{All-head, All-tail, All-push, All-pop, All-map, All-weaker}
-use Rattle.wtf_base.specs.declared.kept.Kept.{Kept}
-use Rattle.wtf_base.specs.declared.pointer.Pointer.{Pointer}
-use Rattle.wtf_base.specs.declared.settings.Settings.{Settings}
-use Rattle.wtf_base.specs.declared.slice.Slice.{Slice}
-use Rattle.wtf_base.specs.Places.{place_in}
-use Rattle.wtf_base.specs.Slices.{pointers_of}
-use Rattle.wtf_dev.specs.Each.{EachFollows}
-use Rattle.wtf_dev.specs.Store.{Range, StoreKind, KindLaws}
-use Rattle.wtf_dev.specs.Sums.{TellsAll}
-use Rattle.wtf_ring.specs.Points.{PlaceView}
-use Rattle.wtf_overlay.specs.Origin.{Place, part_origin}
-use Rattle.wtf_overlay.specs.declared.part.Part.TheVariants.{Held}
-use Rattle.wtf_replica.specs.Copies.{IsNewCopy, IsStored}
-use Rattle.wtf_replica.specs.Inside.{size_in}
-use Rattle.wtf_replica.specs.Spans.{Span}
-use Rattle.wtf_replica.proofs.InsideLaws.{size_in-at}
-use Rattle.wtf_model.specs.declared.answer.Answer.{Answer}
-use Rattle.wtf_model.specs.declared.op.Op.{Op}
-use Rattle.wtf_model.specs.declared.op.Op.TheVariants as op
-use Rattle.wtf_meta.specs.declared.session.Handle.{Handle}
-use Rattle.wtf_meta.specs.Contents.{is_told}
-use Rattle.wtf_meta.specs.Maps.{Map}
-use Rattle.wtf_meta.specs.Sessions.{SessionView, handle_in}
-use Rattle.wtf_region.specs.declared.dev.Dev.{Dev}
-use Rattle.wtf_region.specs.Devs.{GoesOn, stores, told_in, between}
-use Rattle.wtf_region.specs.Inside.{is_inside}
-use Rattle.wtf_log.specs.Calls.{own_of}
-use Rattle.wtf_rw.specs.Ops.{OwnBy}
-use Rattle.wtf_rw.specs.Stored.{SliceBytes}
-use Rattle.wtf_replay.specs.Built.{call_data}
-use Rattle.wtf_replay.specs.Called.{IsCalled}
-use Rattle.wtf_replay.specs.Causes.{IsOwnOf}
-use Rattle.wtf_replay.specs.Insides.{LogBytes}
-use Rattle.wtf_replay.specs.Views.{TxnView}
-use Rattle.wtf_replay.proofs.RwLaws.{told_slice, own_told_of}
-use Rattle.wtf_clients.specs.Safe.{off}
-use Rattle.wtf_clients.specs.Telling.{HoldsOfAdded}
+use Rattle.wtf_clients.proofs.Common.{All, option_map, unwrap_or, cases_lt, cases_Bool, and_from, length-map, slice_get_past, All-head, All-tail, All-push}
+use Rattle.wtf_clients.proofs.Common.{All-pop, All-map, All-weaker, Kept, Pointer, Settings, Slice, place_in, pointers_of, EachFollows, Range, StoreKind}
+use Rattle.wtf_clients.proofs.Common.{KindLaws, TellsAll, PlaceView, Place, part_origin, Held, IsNewCopy, IsStored, size_in, Span, size_in-at, Answer, Op}
+use Rattle.wtf_clients.proofs.Common.{Handle, is_told, Map, SessionView, handle_in, Dev, GoesOn, stores, told_in, between, is_inside, own_of, OwnBy, SliceBytes}
+use Rattle.wtf_clients.proofs.Common.{call_data, IsCalled, IsOwnOf, LogBytes, TxnView, told_slice, own_told_of, off, HoldsOfAdded, ◌≡◌, ℕ, ◌+◌, ◌<◌, ◌≤◌, Bool}
+use Rattle.wtf_clients.proofs.Common.{true, not, List, [], ◌∷◌, ◌++◌, length, Option, None, Some, refl, sym, ap, ◌∙◌, subst, ⊎_elim, arith}
 use Rattle.wtf_clients.proofs.ToldLaws.{own_inside}
 
 -- no file gets shorter, whatever is punched
@@ -77,8 +39,7 @@ added_off kind t settings X low places added = by places added.past
     by (p ∷ ps) h =
         let le = All-head Past p ps h in
         and_from (not (X p)) (off X ps)
-        (⊎_elim (λ here. let lt = low p here in absurd (omega (arith, lt, le))) (λ none. ap not none) (cases_Bool (X p)))
-        (by ps (All-tail Past p ps h))
+        (⊎_elim (λ here. let lt = low p here in absurd (omega (arith, lt, le))) (λ none. ap not none) (cases_Bool (X p))) (by ps (All-tail Past p ps h))
 
 module _ {S : Type 0} (kind : StoreKind S) (old new : Dev S) where
   abbrev Adds : (List Place → Bool) → Type 0
@@ -89,8 +50,7 @@ module _ {S : Type 0} (kind : StoreKind S) (old new : Dev S) where
       → size_in kind (stores old) (place_in i p).server (place_in i p).file ≤ (place_in i p).at
   past_end f bytes i p copy = by (stores old) refl copy.server
     where
-      by : (shelf : List S) → stores old ≡ shelf → p.server.0 < length shelf
-          → size_in kind (stores old) p.server.0 p.file ≤ p.at + i
+      by : (shelf : List S) → stores old ≡ shelf → p.server.0 < length shelf → size_in kind (stores old) p.server.0 p.file ≤ p.at + i
       by [] is below = absurd (omega (arith, below))
       by (d ∷ ds) is below =
           let known = copy.server in
@@ -130,12 +90,12 @@ module _ {S : Type 0} (kind : StoreKind S) (old new : Dev S) where
     where
       by : (o : Op (List ℕ)) → IsOwnOf kind old new w s o own → SliceBytes (is_told (told_in kind new)) own
           → SliceBytes (is_inside kind (stores new) old.settings) own → (P : List Place → Bool) → Adds P → SliceBytes P own
-      by (op.Write f bytes) h told inside P added = by_added (handle_in s f) _ bytes own h told inside P added
-      by (op.Append f bytes) h told inside P added = by_added (handle_in s f) _ bytes own h told inside P added
-      by (op.Read f n) h told inside P added = subst (SliceBytes P) (sym h) tt
-      by (op.Yank f n label) h told inside P added = subst (SliceBytes P) (sym h) tt
-      by (op.Peek label off n) h told inside P added = subst (SliceBytes P) (sym h) tt
-      by (op.Concat q paths) h told inside P added = subst (SliceBytes P) (sym h) tt
+      by (Op.Write f bytes) h told inside P added = by_added (handle_in s f) _ bytes own h told inside P added
+      by (Op.Append f bytes) h told inside P added = by_added (handle_in s f) _ bytes own h told inside P added
+      by (Op.Read f n) h told inside P added = subst (SliceBytes P) (sym h) tt
+      by (Op.Yank f n label) h told inside P added = subst (SliceBytes P) (sym h) tt
+      by (Op.Peek label off n) h told inside P added = subst (SliceBytes P) (sym h) tt
+      by (Op.Concat q paths) h told inside P added = subst (SliceBytes P) (sym h) tt
       by o h told inside P added = subst (SliceBytes P) (sym h.1) tt
 
 -- what is added in a later part of a span is added in it

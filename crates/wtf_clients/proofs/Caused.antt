@@ -1,95 +1,48 @@
 -- Why a fault was answered, and what a line added to the stores.
-use Rattle.std.specs.Option.{option_map}
-use Rattle.std.proofs.Common.{◌≡◌, ◌⊎◌, ℕ, ◌+◌, ◌<◌, List, [], ◌∷◌, length, Option, None, Some, refl, sym, ap, ◌∙◌, subst, inl, inr, arith}
-use Rattle.std.specs.Prelude.{IsSome, Bool, true, nat_lt, ◌-◌}
-use Rattle.std.proofs.lemmas.Bool.{cases_lt, cond-true, cond-false, lt-ltb, le-ltb}
-use Rattle.std.proofs.lemmas.List.Elements.{All-head, All-tail}
-use Rattle.wtf_steps.specs.Leaving.{LeavesStores}
-use Rattle.wtf_overlay.specs.declared.part.Piece.{Piece}
-use Rattle.wtf_overlay.specs.Origin.{Place, part_origin, pieces_origin}
-use Rattle.wtf_slicing.specs.Shown.{LacksSlice}
-use Rattle.wtf_slicing.specs.Ops.{IsYankFault, IsConcatFault}
-use Rattle.wtf_base.specs.declared.fault.Fault.{Fault}
-use Rattle.wtf_base.specs.declared.fault.Fault.TheVariants as fault
-use Rattle.wtf_base.specs.declared.ids.InodeId.{InodeId}
-use Rattle.wtf_base.specs.declared.kept.Kept.{Kept}
-use Rattle.wtf_base.specs.declared.settings.Settings.{Settings}
-use Rattle.wtf_base.specs.declared.slice.Slice.{Slice}
-use Rattle.wtf_base.specs.declared.slice.Extents.{Extents}
-use Rattle.wtf_base.specs.declared.slice.Extents.TheVariants.{One, Two, Three}
-use Rattle.wtf_base.specs.Extents.{IsSound}
-use Rattle.wtf_base.specs.Slices.{len_of}
-use Rattle.wtf_dev.specs.Store.{StoreKind, KindLaws}
-use Rattle.wtf_ring.specs.Points.{PlaceView}
-use Rattle.wtf_replica.specs.Downs.{is_down}
-use Rattle.wtf_replica.specs.Faults.{AreTooFew}
-use Rattle.wtf_replica.specs.Outs.{SameLengths}
-use Rattle.wtf_replica.specs.Spans.{Span}
-use Rattle.wtf_model.specs.declared.answer.Answer.{Answer}
-use Rattle.wtf_model.specs.declared.answer.Answer.TheVariants as answer
-use Rattle.wtf_model.specs.declared.op.Op.{Op}
-use Rattle.wtf_model.specs.declared.op.Op.TheVariants as op
-use Rattle.wtf_model.specs.Steps.{IsLogged}
-use Rattle.wtf_meta.specs.declared.session.Handle.{Handle}
-use Rattle.wtf_meta.specs.Bytes.{PartBytes, PiecesBytes, FileBytes, MapBytes, any_slice}
-use Rattle.wtf_meta.specs.Maps.{Map}
-use Rattle.wtf_meta.specs.Sessions.{SessionView, SessionBytes, handle_in, slice_in}
-use Rattle.wtf_meta.proofs.Named.{plans_bytes, file_bytes}
-use Rattle.wtf_region.specs.declared.dev.Dev.{Dev}
-use Rattle.wtf_region.specs.Devs.{IsSoundDev, stores, inside_of, between, place_in}
-use Rattle.wtf_region.specs.Showing.{OnlyRead}
-use Rattle.wtf_region.proofs.ListReads.{file_later}
-use Rattle.wtf_region.proofs.ShowLaws.{reads_nothing}
-use Rattle.wtf_rw.specs.Ops.{OwnBy}
-use Rattle.wtf_steps.specs.Faults.{ShowPlaces}
-use Rattle.wtf_steps.specs.Recorded.{found_in}
-use Rattle.wtf_steps.specs.Steps.{IsRefusal}
-use Rattle.wtf_meta.specs.FileEdits.{file_of}
-use Rattle.wtf_rw.specs.Stored.{SliceBytes, IsPutFault, end_place}
-use Rattle.wtf_replay.specs.Causes.{StoresNothing, IsOwnOf, IsReadCause, IsPeekCause, IsCallFault, IsAgainFault, fault_answer, grown_file}
-use Rattle.wtf_replay.specs.Keeps.{LacksData}
-use Rattle.wtf_clients.specs.Named.{any_byte, has_copies}
-use Rattle.wtf_replica.specs.Copies.{IsStored}
-use Rattle.wtf_clients.specs.Asked.{Asked, IsPlacedBy, IsPlaced, IsCallPlace, HasFailed}
-use Rattle.wtf_clients.specs.Outcomes.{Load, Data, RegionList, Frees, no_load, AddsBytes, HasCause, data_of_op}
-use Rattle.wtf_clients.proofs.Staying.{IsFault, fault_is}
-use Rattle.wtf_clients.specs.Serves.{IsPlain}
-use Rattle.wtf_clients.proofs.Unread.{slice_copies}
-use Rattle.wtf_clients.proofs.Lacking.{AreFullLists, memory_none, cause_since, file_caused, shown_caused, read_caused}
-use Rattle.wtf_clients.specs.Leaving.{GrowsOnly}
+use Rattle.wtf_clients.proofs.Common.{option_map, cond-false, LacksSlice, file_bytes, IsSoundDev, file_later, ShowPlaces, SliceBytes, IsPutFault, IsCallPlace}
+use Rattle.wtf_clients.proofs.Common.{IsSome, cond-true, StoreKind, PlaceView, AreTooFew, PartBytes, grown_file, has_copies, IsPlacedBy, RegionList, data_of_op}
+use Rattle.wtf_clients.proofs.Common.{Bool, part_origin, IsYankFault, SameLengths, PiecesBytes, SessionView, plans_bytes, IsReadCause, IsPeekCause, IsCallFault}
+use Rattle.wtf_clients.proofs.Common.{true, Place, Fault, Kept, Slice, Three, Span, Answer, Handle, stores, OwnBy, Asked, Frees, length, Option, subst, arith}
+use Rattle.wtf_clients.proofs.Common.{nat_lt, lt-ltb, le-ltb, InodeId, Extents, IsSound, len_of, is_down, between, file_of, IsOwnOf, no_load, HasCause, IsPlain}
+use Rattle.wtf_clients.proofs.Common.{◌-◌, One, Two, Op, Map, Dev, Load, Data, ◌≡◌, ◌⊎◌, ◌+◌, ◌<◌, List, [], ◌∷◌, None, Some, refl, sym, ap, ◌∙◌, inl, inr}
+use Rattle.wtf_clients.proofs.Common.{cases_lt, FileBytes, any_slice, handle_in, inside_of, IsRefusal, end_place, LacksData, HasFailed, AddsBytes, GrowsOnly, ℕ}
+use Rattle.wtf_clients.proofs.Common.{All-head, All-tail, Settings, KindLaws, IsLogged, MapBytes, slice_in, OnlyRead, found_in, any_byte, IsStored, IsPlaced}
+use Rattle.wtf_clients.proofs.Common.{LeavesStores, Piece, pieces_origin, IsConcatFault, SessionBytes, reads_nothing, StoresNothing, IsAgainFault, fault_answer}
+use Rattle.wtf_region.specs.Devs.{place_in}
+use Rattle.wtf_clients.proofs.{Staying.IsFault, Staying.fault_is, Unread.slice_copies, Lacking.AreFullLists, Lacking.memory_none, Lacking.cause_since}
+use Rattle.wtf_clients.proofs.{Lacking.file_caused, Lacking.shown_caused, Lacking.read_caused}
 
 -- the answers of calls are no faults
 pub logged_plain : (a : Answer) → IsLogged a → IsPlain a
-logged_plain (answer.FaultRead k) h = absurd h
-logged_plain answer.FaultWrite h = absurd h
-logged_plain (answer.FaultPunch k) h = absurd h
-logged_plain answer.FaultSave h = absurd h
-logged_plain (answer.Damaged k) h = absurd h
+logged_plain (Answer.FaultRead k) h = absurd h
+logged_plain Answer.FaultWrite h = absurd h
+logged_plain (Answer.FaultPunch k) h = absurd h
+logged_plain Answer.FaultSave h = absurd h
+logged_plain (Answer.Damaged k) h = absurd h
 logged_plain a h = tt
 
 -- they need no cause
 pub plain_failed : (fails : Fault → Type 0) (a : Answer) → IsPlain a → HasFailed fails a
-plain_failed fails (answer.FaultRead k) h = absurd h
-plain_failed fails answer.FaultWrite h = absurd h
-plain_failed fails (answer.FaultPunch k) h = absurd h
-plain_failed fails answer.FaultSave h = tt
-plain_failed fails (answer.Damaged k) h = absurd h
+plain_failed fails (Answer.FaultRead k) h = absurd h
+plain_failed fails Answer.FaultWrite h = absurd h
+plain_failed fails (Answer.FaultPunch k) h = absurd h
+plain_failed fails Answer.FaultSave h = tt
+plain_failed fails (Answer.Damaged k) h = absurd h
 plain_failed fails a h = tt
 
 -- a fault that has one
 pub has_failed : (fails : Fault → Type 0) (why : Fault) (a : Answer) → fault_answer why ≡ Some a → fails why → HasFailed fails a
-has_failed fails why (answer.FaultRead k) is h = (why, is, h)
-has_failed fails why answer.FaultWrite is h = (why, is, h)
-has_failed fails why (answer.FaultPunch k) is h = (why, is, h)
-has_failed fails why answer.FaultSave is h = tt
-has_failed fails why (answer.Damaged k) is h = (why, is, h)
+has_failed fails why (Answer.FaultRead k) is h = (why, is, h)
+has_failed fails why Answer.FaultWrite is h = (why, is, h)
+has_failed fails why (Answer.FaultPunch k) is h = (why, is, h)
+has_failed fails why Answer.FaultSave is h = tt
+has_failed fails why (Answer.Damaged k) is h = (why, is, h)
 has_failed fails why a is h = tt
 
 -- what was stored for a line that hands nothing in, for one that is refused, and for one that failed
 pub none_placed : {S : Type 0} (kind : StoreKind S) (t : Span S) (settings : Settings) (asked : Asked) (a : Answer) → asked.given ≡ no_load
     → IsPlaced kind t settings asked a
-none_placed kind t settings asked a none =
-    subst (λ (l : Load). IsPlacedBy kind t settings asked l a) (sym none) (λ is some. absurd (omega (arith, some)))
+none_placed kind t settings asked a none = subst (λ (l : Load). IsPlacedBy kind t settings asked l a) (sym none) (λ is some. absurd (omega (arith, some)))
 
 pub refused_placed : {S : Type 0} (kind : StoreKind S) (t : Span S) (settings : Settings) (asked : Asked) (a : Answer) → IsRefusal a
     → IsPlaced kind t settings asked a
@@ -113,23 +66,23 @@ module _ {S : Type 0} (kind : StoreKind S) (t : Span S) (settings : Settings) wh
   -- needs no cause
   pub plain_caused : (saving : Type 0) (based : (Slice → Bool) → Type 0) (full : Type 0) (given : Load) (a : Answer) → IsPlain a
       → HasCause kind t settings saving based full given a
-  plain_caused saving based full given (answer.FaultRead k) h = absurd h
-  plain_caused saving based full given answer.FaultWrite h = absurd h
-  plain_caused saving based full given (answer.FaultPunch k) h = absurd h
-  plain_caused saving based full given answer.FaultSave h = absurd h
-  plain_caused saving based full given (answer.Damaged k) h = absurd h
+  plain_caused saving based full given (Answer.FaultRead k) h = absurd h
+  plain_caused saving based full given Answer.FaultWrite h = absurd h
+  plain_caused saving based full given (Answer.FaultPunch k) h = absurd h
+  plain_caused saving based full given Answer.FaultSave h = absurd h
+  plain_caused saving based full given (Answer.Damaged k) h = absurd h
   plain_caused saving based full given a h = tt
 
   -- a line that stores nothing
   pub none_added : (a : Answer) → SameLengths kind t.before t.after → AddsBytes kind t settings no_load a
-  none_added answer.FaultWrite h = tt
+  none_added Answer.FaultWrite h = tt
   none_added a h = h
 
   pub refused_adds : (given : Load) (a : Answer) → IsRefusal a → SameLengths kind t.before t.after → AddsBytes kind t settings given a
-  refused_adds (Data []) (answer.Refused w) r h = h
-  refused_adds (Data (b ∷ bs)) (answer.Refused w) r h = h
-  refused_adds RegionList (answer.Refused w) r h = h
-  refused_adds (Frees k) (answer.Refused w) r h = h
+  refused_adds (Data []) (Answer.Refused w) r h = h
+  refused_adds (Data (b ∷ bs)) (Answer.Refused w) r h = h
+  refused_adds RegionList (Answer.Refused w) r h = h
+  refused_adds (Frees k) (Answer.Refused w) r h = h
   refused_adds given a r h = absurd r
 
 -- a slice has a byte
@@ -144,7 +97,7 @@ module _ {S : Type 0} (kind : StoreKind S) (old new : Dev S) where
   same_lengths e = subst (λ (d : Dev S). SameLengths kind (stores old) (stores d)) (sym e) (reads_nothing kind (is_down old.replicas.now) (stores old)).lengths
 
   own_adds : (o : Option Handle) (place : Handle → PlaceView) (bytes : List ℕ) (own : Option Slice) (a : Answer) → OwnBy kind old new o place bytes own
-      → (own ≡ None → (length bytes ≡ 0) ⊎ IsRefusal a) → (IsSome own → a ≡ answer.Okay) → AddsBytes kind (between old new) old.settings (Data bytes) a
+      → (own ≡ None → (length bytes ≡ 0) ⊎ IsRefusal a) → (IsSome own → a ≡ Answer.Okay) → AddsBytes kind (between old new) old.settings (Data bytes) a
   own_adds None place [] own a h lacks done = none_added kind (between old new) old.settings a (same_lengths h.0)
   own_adds (Some g) place [] None a h lacks done = none_added kind (between old new) old.settings a (same_lengths h)
   own_adds (Some g) place [] (Some s) a h lacks done = absurd (let some = some_len s.len s.extents s.sound in let len = h.0.len in omega (arith, some, len))
@@ -161,16 +114,15 @@ module _ {S : Type 0} (kind : StoreKind S) (old new : Dev S) where
 
   -- what a call that was answered stored
   pub call_adds : (w : Map) (s : SessionView) (o : Op (List ℕ)) (own : Option Slice) (a : Answer) → IsOwnOf kind old new w s o own → LacksData o own a
-      → (IsSome own → a ≡ answer.Okay) → (StoresNothing o → OnlyRead kind (between old new))
+      → (IsSome own → a ≡ Answer.Okay) → (StoresNothing o → OnlyRead kind (between old new))
       → AddsBytes kind (between old new) old.settings (Data (data_of_op o)) a
-  call_adds w s (op.Write f bytes) own a h lacks done reads = own_adds (handle_in s f) _ bytes own a h lacks done
-  call_adds w s (op.Append f bytes) own a h lacks done reads = own_adds (handle_in s f) _ bytes own a h lacks done
+  call_adds w s (Op.Write f bytes) own a h lacks done reads = own_adds (handle_in s f) _ bytes own a h lacks done
+  call_adds w s (Op.Append f bytes) own a h lacks done reads = own_adds (handle_in s f) _ bytes own a h lacks done
   call_adds w s o own a h lacks done reads = none_added kind (between old new) old.settings a (reads tt).lengths
 
   own_placed : (o : Option Handle) (place : Handle → PlaceView) (Goes : PlaceView → Type 0) (bytes : List ℕ) (own : Option Slice) (a : Answer)
       → OwnBy kind old new o place bytes own → (own ≡ None → (length bytes ≡ 0) ⊎ IsRefusal a) → ((g : Handle) → o ≡ Some g → Goes (place g))
-      → a ≡ answer.Okay → 0 < length bytes
-      → (p : PlaceView) × Goes p × (slice : Slice) × IsStored kind (between old new) old.settings.replicas p bytes slice
+      → a ≡ Answer.Okay → 0 < length bytes → (p : PlaceView) × Goes p × (slice : Slice) × IsStored kind (between old new) old.settings.replicas p bytes slice
   own_placed None place Goes bytes own a h lacks goes ok some = elim (lacks h.1) [
     | inl none ↦ absurd (omega (arith, none, some))
     | inr refusal ↦ absurd (subst IsRefusal ok refusal)
@@ -184,12 +136,12 @@ module _ {S : Type 0} (kind : StoreKind S) (old new : Dev S) where
 
   -- and where
   pub call_placed : (w : Map) (s : SessionView) (o : Op (List ℕ)) (own : Option Slice) (a : Answer) → IsOwnOf kind old new w s o own → LacksData o own a
-      → a ≡ answer.Okay → 0 < length (data_of_op o)
+      → a ≡ Answer.Okay → 0 < length (data_of_op o)
       → (p : PlaceView) × IsCallPlace old w s o p × (slice : Slice) × IsStored kind (between old new) old.settings.replicas p (data_of_op o) slice
-  call_placed w s (op.Write f bytes) own a h lacks ok some =
-      own_placed (handle_in s f) (λ g. place_in old g.inode g.off) (IsCallPlace old w s (op.Write f bytes)) bytes own a h lacks (λ g is. (g, is, refl)) ok some
-  call_placed w s (op.Append f bytes) own a h lacks ok some = own_placed (handle_in s f)
-      (λ g. place_in old g.inode (end_place old.settings.region (file_of g.inode w))) (IsCallPlace old w s (op.Append f bytes))
+  call_placed w s (Op.Write f bytes) own a h lacks ok some =
+      own_placed (handle_in s f) (λ g. place_in old g.inode g.off) (IsCallPlace old w s (Op.Write f bytes)) bytes own a h lacks (λ g is. (g, is, refl)) ok some
+  call_placed w s (Op.Append f bytes) own a h lacks ok some = own_placed (handle_in s f)
+      (λ g. place_in old g.inode (end_place old.settings.region (file_of g.inode w))) (IsCallPlace old w s (Op.Append f bytes))
       bytes own a h lacks (λ g is. (g, is, refl)) ok some
   call_placed w s o own a h lacks ok some = absurd (omega (arith, some))
 
@@ -202,24 +154,24 @@ module _ {S : Type 0} (kind : StoreKind S) (old new : Dev S) where
   -- it has as many copies as there are replicas
   pub own_full : (w : Map) (s : SessionView) (o : Op (List ℕ)) (own : Option Slice) → IsOwnOf kind old new w s o own
       → SliceBytes (has_copies old.settings.replicas) own
-  own_full w s (op.Write f bytes) own h = own_by_full (handle_in s f) _ bytes own h
-  own_full w s (op.Append f bytes) own h = own_by_full (handle_in s f) _ bytes own h
-  own_full w s (op.Read f n) own h = subst (SliceBytes (has_copies old.settings.replicas)) (sym h) tt
-  own_full w s (op.Yank f n label) own h = subst (SliceBytes (has_copies old.settings.replicas)) (sym h) tt
-  own_full w s (op.Peek label off n) own h = subst (SliceBytes (has_copies old.settings.replicas)) (sym h) tt
-  own_full w s (op.Concat q paths) own h = subst (SliceBytes (has_copies old.settings.replicas)) (sym h) tt
+  own_full w s (Op.Write f bytes) own h = own_by_full (handle_in s f) _ bytes own h
+  own_full w s (Op.Append f bytes) own h = own_by_full (handle_in s f) _ bytes own h
+  own_full w s (Op.Read f n) own h = subst (SliceBytes (has_copies old.settings.replicas)) (sym h) tt
+  own_full w s (Op.Yank f n label) own h = subst (SliceBytes (has_copies old.settings.replicas)) (sym h) tt
+  own_full w s (Op.Peek label off n) own h = subst (SliceBytes (has_copies old.settings.replicas)) (sym h) tt
+  own_full w s (Op.Concat q paths) own h = subst (SliceBytes (has_copies old.settings.replicas)) (sym h) tt
   own_full w s o own h = subst (SliceBytes (has_copies old.settings.replicas)) (sym h.1) tt
 
   -- why bytes were not stored
   put_fault : (bytes : List ℕ) (why : Fault) (a : Answer) → fault_answer why ≡ Some a → IsPutFault kind old new bytes why
-      → (a ≡ answer.FaultWrite) × (0 < length bytes) × AreTooFew kind (between old new) old.settings.servers old.settings.replicas
+      → (a ≡ Answer.FaultWrite) × (0 < length bytes) × AreTooFew kind (between old new) old.settings.servers old.settings.replicas
   put_fault [] why a is h = absurd (memory_none why a is h)
   put_fault (b ∷ bs) why a is (inl memory) = absurd (memory_none why a is memory)
-  put_fault (b ∷ bs) fault.Write a is (inr few) = (let e : answer.FaultWrite ≡ a = cc in sym e, omega arith, few)
-  put_fault (b ∷ bs) (fault.Read k) a is (inr few) = absurd few
-  put_fault (b ∷ bs) (fault.Punch k) a is (inr few) = absurd few
-  put_fault (b ∷ bs) (fault.Damaged k) a is (inr few) = absurd few
-  put_fault (b ∷ bs) fault.Memory a is (inr few) = absurd few
+  put_fault (b ∷ bs) Fault.Write a is (inr few) = (let e : Answer.FaultWrite ≡ a = cc in sym e, omega arith, few)
+  put_fault (b ∷ bs) (Fault.Read k) a is (inr few) = absurd few
+  put_fault (b ∷ bs) (Fault.Punch k) a is (inr few) = absurd few
+  put_fault (b ∷ bs) (Fault.Damaged k) a is (inr few) = absurd few
+  put_fault (b ∷ bs) Fault.Memory a is (inr few) = absurd few
 
   put_caused : (based : (Slice → Bool) → Type 0) (full : Type 0) (bytes : List ℕ) (why : Fault) (a : Answer) → fault_answer why ≡ Some a
       → IsPutFault kind old new bytes why → HasCause kind (between old new) old.settings ⊥ based full (Data bytes) a
@@ -231,7 +183,7 @@ module _ {S : Type 0} (kind : StoreKind S) (old new : Dev S) where
       → AddsBytes kind (between old new) old.settings (Data bytes) a
   put_adds bytes why a is h = by bytes (put_fault bytes why a is h)
     where
-      by : (l : List ℕ) → (a ≡ answer.FaultWrite) × (0 < length l) × AreTooFew kind (between old new) old.settings.servers old.settings.replicas
+      by : (l : List ℕ) → (a ≡ Answer.FaultWrite) × (0 < length l) × AreTooFew kind (between old new) old.settings.servers old.settings.replicas
           → AddsBytes kind (between old new) old.settings (Data l) a
       by [] cause = absurd (let some = cause.1 in omega (arith, some))
       by (b ∷ bs) cause = subst (λ (r : Answer). AddsBytes kind (between old new) old.settings (Data (b ∷ bs)) r) (sym cause.0) tt
@@ -244,9 +196,9 @@ module _ {S : Type 0} (kind : StoreKind S) (old new : Dev S) where
 
   pub call_grows : (w : Map) (s : SessionView) (o : Op (List ℕ)) (asked : Asked) → LeavesStores kind (grown_file old w s o) (between old new)
       → ((place : PlaceView) → IsCallPlace old w s o place → asked.goes_to place) → GrowsOnly kind (between old new) asked
-  call_grows w s (op.Write f bytes) asked h goes =
+  call_grows w s (Op.Write f bytes) asked h goes =
       own_grows (handle_in s f) (λ g. place_in old g.inode g.off) asked h (λ g is. goes (place_in old g.inode g.off) (g, is, refl))
-  call_grows w s (op.Append f bytes) asked h goes = own_grows (handle_in s f) (λ g. place_in old g.inode (end_place old.settings.region (file_of g.inode w)))
+  call_grows w s (Op.Append f bytes) asked h goes = own_grows (handle_in s f) (λ g. place_in old g.inode (end_place old.settings.region (file_of g.inode w)))
       asked h
       (λ g is. goes (place_in old g.inode (end_place old.settings.region (file_of g.inode w))) (g, is, refl))
   call_grows w s o asked h goes = inl h.files
@@ -254,8 +206,8 @@ module _ {S : Type 0} (kind : StoreKind S) (old new : Dev S) where
   -- what a call that failed stored
   pub fault_adds : (w : Map) (s : SessionView) (o : Op (List ℕ)) (why : Fault) (a : Answer) → fault_answer why ≡ Some a → IsCallFault kind old new w s o why
       → (StoresNothing o → OnlyRead kind (between old new)) → AddsBytes kind (between old new) old.settings (Data (data_of_op o)) a
-  fault_adds w s (op.Write f bytes) why a is h reads = put_adds bytes why a is h
-  fault_adds w s (op.Append f bytes) why a is h reads = put_adds bytes why a is h
+  fault_adds w s (Op.Write f bytes) why a is h reads = put_adds bytes why a is h
+  fault_adds w s (Op.Append f bytes) why a is h reads = put_adds bytes why a is h
   fault_adds w s o why a is h reads = none_added kind (between old new) old.settings a (reads tt).lengths
 
 -- P holds of the bytes of a map, and of those of the slices in hand; and Q of the slices of bases
@@ -276,9 +228,8 @@ piece_bytes P hole (p ∷ ps) i h = elim (cases_lt i p.len) [
 -- each base passes it; where `full` holds each byte has as many copies as there are replicas, O holds of each base, and each byte of a list
 -- that was read of such a base has as many.
 module _ {S : Type 0} {kind : StoreKind S} (laws : KindLaws kind) (old new : Dev S) (sound : IsSoundDev kind old) (w : Map) (s : SessionView)
-    (based : (Slice → Bool) → Type 0) (full : Type 0) (O : Slice → Bool)
-    (inside : SeenBytes (inside_of kind old) any_slice w s) (passes : (Q : Slice → Bool) → based Q → SeenBytes any_byte Q w s)
-    (copies : full → SeenBytes (has_copies old.settings.replicas) O w s)
+    (based : (Slice → Bool) → Type 0) (full : Type 0) (O : Slice → Bool) (inside : SeenBytes (inside_of kind old) any_slice w s)
+    (passes : (Q : Slice → Bool) → based Q → SeenBytes any_byte Q w s) (copies : full → SeenBytes (has_copies old.settings.replicas) O w s)
     (lists : (i : InodeId) (off n : ℕ) → AreFullLists kind old new full O (file_of i w) off n) where
   abbrev Caused : Answer → Type 0
   Caused a = HasCause kind (between old new) old.settings ⊥ based full no_load a
@@ -318,8 +269,7 @@ module _ {S : Type 0} {kind : StoreKind S} (laws : KindLaws kind) (old new : Dev
   concat_by paths why a is (inl memory) = absurd (memory_none why a is memory)
   concat_by paths why a is (inr (files, sources, lacks)) =
       let file = file_of lacks.inode w in
-      cause_since laws old lacks.mid new based full a lacks.goes
-      (file_caused laws lacks.mid new lacks.goes.sound based full O why a is file 0 _ any_byte
+      cause_since laws old lacks.mid new based full a lacks.goes (file_caused laws lacks.mid new lacks.goes.sound based full O why a is file 0 _ any_byte
       (file_later laws sound lacks.goes file (file_bytes (inside_of kind old) any_slice lacks.inode w inside.0))
       (λ Q c. file_bytes any_byte Q lacks.inode w (passes Q c).0)
       (λ c. subst (λ (st : Settings). FileBytes (has_copies st.replicas) O file) (sym lacks.goes.settings)
@@ -328,19 +278,19 @@ module _ {S : Type 0} {kind : StoreKind S} (laws : KindLaws kind) (old new : Dev
   -- why a call failed that was made once more
   pub again_caused : (k : Op Kept) (why : Fault) (a : Answer) → fault_answer why ≡ Some a → IsAgainFault kind old new w s k why → HasCause kind
       (between old new) old.settings ⊥ based full no_load a
-  again_caused (op.Read f n) why a is h = read_by (handle_in s f) n why a is h
-  again_caused (op.Yank f n label) why a is h = yank_by (handle_in s f) n why a is h
-  again_caused (op.Peek label off n) why a is h = peek_by label off n why a is h
-  again_caused (op.Concat q paths) why a is h = concat_by paths why a is h
+  again_caused (Op.Read f n) why a is h = read_by (handle_in s f) n why a is h
+  again_caused (Op.Yank f n label) why a is h = yank_by (handle_in s f) n why a is h
+  again_caused (Op.Peek label off n) why a is h = peek_by label off n why a is h
+  again_caused (Op.Concat q paths) why a is h = concat_by paths why a is h
   again_caused k why a is h = absurd (memory_none why a is h)
 
   -- or for the first time
   pub call_caused : (o : Op (List ℕ)) (why : Fault) (a : Answer) → fault_answer why ≡ Some a → IsCallFault kind old new w s o why → HasCause kind
       (between old new) old.settings ⊥ based full (Data (data_of_op o)) a
-  call_caused (op.Write f bytes) why a is h = put_caused kind old new based full bytes why a is h
-  call_caused (op.Append f bytes) why a is h = put_caused kind old new based full bytes why a is h
-  call_caused (op.Read f n) why a is h = read_by (handle_in s f) n why a is h
-  call_caused (op.Yank f n label) why a is h = yank_by (handle_in s f) n why a is h
-  call_caused (op.Peek label off n) why a is h = peek_by label off n why a is h
-  call_caused (op.Concat q paths) why a is h = concat_by paths why a is h
+  call_caused (Op.Write f bytes) why a is h = put_caused kind old new based full bytes why a is h
+  call_caused (Op.Append f bytes) why a is h = put_caused kind old new based full bytes why a is h
+  call_caused (Op.Read f n) why a is h = read_by (handle_in s f) n why a is h
+  call_caused (Op.Yank f n label) why a is h = yank_by (handle_in s f) n why a is h
+  call_caused (Op.Peek label off n) why a is h = peek_by label off n why a is h
+  call_caused (Op.Concat q paths) why a is h = concat_by paths why a is h
   call_caused o why a is h = absurd (memory_none why a is h)

@@ -1,50 +1,16 @@
 -- A collection frees only what is named by nothing: all that is named is told as before, and lies apart from what was freed.
 -- NSDI 2016, section 2.8 (garbage collection in two scans).
-use Rattle.std.proofs.Common.{◌≡◌, ℕ, ◌≤◌, Bool, true, ◌&&◌, List}
-use Rattle.std.proofs.Common.{length, Some, sym, subst, ⊎_elim, arith}
-use Rattle.std.specs.Prelude.{IsTrue, not}
-use Rattle.std.specs.List.{Contains}
-use Rattle.std.proofs.lemmas.Bool.{or_cases}
-use Rattle.std.proofs.lemmas.List.Elements.{All-weaker}
-use Rattle.wtf_base.specs.declared.slice.Slice.{Slice}
-use Rattle.wtf_dev.specs.Store.{Range, StoreKind, KindLaws}
-use Rattle.wtf_dev.proofs.Sums.{tells_all-kept}
-use Rattle.wtf_overlay.specs.Origin.{Place}
-use Rattle.wtf_replica.specs.Inside.{size_in}
-use Rattle.wtf_kv.specs.Stores.{is_live}
-use Rattle.wtf_model.specs.Machines.{Machine}
-use Rattle.wtf_model.specs.Tree.{Tree}
-use Rattle.wtf_meta.specs.Bytes.{MapBytes, are_in}
-use Rattle.wtf_meta.specs.Contents.{Told, is_told}
-use Rattle.wtf_meta.specs.Maps.{Map, metadata_at}
-use Rattle.wtf_meta.specs.Trees.{Stands}
-use Rattle.wtf_region.specs.declared.dev.Dev.{Dev}
-use Rattle.wtf_region.specs.Apart.{lies_apart, are_apart, with_ranges}
-use Rattle.wtf_region.specs.Devs.{stores, remembered, told_in}
-use Rattle.wtf_region.specs.Inside.{is_inside}
-use Rattle.wtf_region.proofs.InsideLaws.{inside_stays}
-use Rattle.wtf_replay.specs.Insides.{lists_have}
-use Rattle.wtf_compact.specs.Jobs.{region_in_map}
-use Rattle.wtf_gc.specs.declared.extent.Extent.{Extent}
-use Rattle.wtf_gc.specs.Extents.{extents_cover}
-use Rattle.wtf_gc.specs.Frees.{LiesOn, lie_in}
-use Rattle.wtf_gc.specs.Views.{RunView, is_garbage}
-use Rattle.wtf_clients.specs.Views.{TablesView}
-use Rattle.wtf_clients.specs.Named.{TablesBytes, ListedBytes, has_copies}
-use Rattle.wtf_clients.specs.Off.{TellsWhere}
-use Rattle.wtf_clients.specs.Safe.{off, NamesNone, is_below, IsMissed, LieIn, IsSafe}
-use Rattle.wtf_clients.specs.Sounds.{AreSound}
-use Rattle.wtf_clients.specs.Standing.{TablesStand}
-use Rattle.wtf_clients.specs.Telling.{TellsTables, AreWide, AreWithin}
-use Rattle.wtf_clients.proofs.Images.{kept_pinned}
-use Rattle.wtf_clients.proofs.JobPins.{job_pinned}
-use Rattle.wtf_clients.proofs.Lives.{pinned_live, seen_live}
-use Rattle.wtf_clients.proofs.OffLaws.{Tests, passes_back, maybe_passes, is_told_where}
-use Rattle.wtf_clients.proofs.OffStanding.{stands_where, tables_where, listed_where, own_txn_where, own_job_where}
-use Rattle.wtf_clients.proofs.Punched.{listed_apart, apart_with, tells_punched}
-use Rattle.wtf_clients.proofs.SafeLaws.{garbage_unnamed, lie_on, map_region}
-use Rattle.wtf_clients.proofs.Added.{sizes_grow}
-use Rattle.wtf_clients.proofs.Freeing.{with_freed, Freed, off_both, freed_low, ranges_lie, with_all}
+use Rattle.wtf_clients.proofs.Common.{IsTrue, Machine, Tree, are_in, is_told, Stands, stores, told_in, Extent, LiesOn, lie_in, RunView, IsSafe, AreWide, length}
+use Rattle.wtf_clients.proofs.Common.{not, Slice, Range, Place, Told, Map, Dev, off, LieIn, ◌≡◌, ◌≤◌, Bool, true, ◌&&◌, List, Some, sym, subst, ⊎_elim, arith}
+use Rattle.wtf_clients.proofs.Common.{Contains, or_cases, KindLaws, size_in, is_live, MapBytes, is_inside, NamesNone, is_below, IsMissed, AreSound, AreWithin}
+use Rattle.wtf_clients.proofs.Common.{All-weaker, lies_apart, are_apart, remembered, lists_have, is_garbage, TablesView, has_copies, TellsWhere, TellsTables, ℕ}
+use Rattle.wtf_clients.proofs.Common.{StoreKind, tells_all-kept, metadata_at, with_ranges, inside_stays, region_in_map, extents_cover, TablesBytes, TablesStand}
+use Rattle.wtf_clients.specs.Named.{ListedBytes}
+use Rattle.wtf_clients.proofs.{Images.kept_pinned, JobPins.job_pinned, Lives.pinned_live, Lives.seen_live, OffLaws.Tests, OffLaws.passes_back}
+use Rattle.wtf_clients.proofs.{OffLaws.maybe_passes, OffLaws.is_told_where, OffStanding.stands_where, OffStanding.tables_where, OffStanding.listed_where}
+use Rattle.wtf_clients.proofs.{OffStanding.own_txn_where, OffStanding.own_job_where, Punched.listed_apart, Punched.apart_with, Punched.tells_punched}
+use Rattle.wtf_clients.proofs.{SafeLaws.garbage_unnamed, SafeLaws.lie_on, SafeLaws.map_region, Added.sizes_grow, Freeing.with_freed, Freeing.Freed}
+use Rattle.wtf_clients.proofs.{Freeing.off_both, Freeing.freed_low, Freeing.ranges_lie, Freeing.with_all}
 
 -- ---- what other extents that were freed leave
 freed_bytes : (P : List Place → Bool) (Q : Slice → Bool) (old : TablesView) (freed : List Extent) → TablesBytes P Q old → TablesBytes P Q (with_freed old freed)
@@ -199,8 +165,7 @@ module _ {S : Type 0} {kind : StoreKind S} (laws : KindLaws kind) {before after 
           punched = with_ranges tells.punched freed.ranges;
           lie = All-weaker (LiesOn was servers) (LiesOn now servers)
               (λ r h. let le = h.2 in let more = grows r.0 r.1.file in (h.0, h.1, omega (arith, le, more)))
-              (with_ranges tells.punched freed.ranges)
-              (with_all (LiesOn was servers) tells.punched freed.ranges tells.lie
+              (with_ranges tells.punched freed.ranges) (with_all (LiesOn was servers) tells.punched freed.ranges tells.lie
               (ranges_lie was servers old.beside.gc.older lie.older freed.ranges freed.apart
               (λ p there. (freed.server p there, freed_low old freed.ranges freed.garbage p there))));
           cache = freed.lists tells.punched tells.cache;

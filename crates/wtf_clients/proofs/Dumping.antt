@@ -1,66 +1,17 @@
 -- What a dump shows is the file's bytes, and why it did not.
-use Rattle.std.proofs.Common.{◌≡◌, ℕ, ◌+◌, ◌*◌, ◌<◌, ◌≤◌, min, nat_le, Bool, true, false, List, [], ◌∷◌, length, get_or, Option, None, Some, Result, Ok, Err}
-use Rattle.std.proofs.Common.{◌≢◌, refl, sym, ap, ◌∙◌, subst, inl, inr, ◌⊎◌, arith, zero-add}
-use Rattle.std.specs.Prelude.{if◌then◌else◌}
-use Rattle.std.specs.FinMap.{get}
-use Rattle.std.proofs.lemmas.Bool.{le-leb}
-use Rattle.std.proofs.lemmas.Grind.{same_number_lists}
-use Rattle.wtf_base.specs.declared.fault.Fault.{Fault}
-use Rattle.wtf_base.specs.declared.fault.Fault.TheVariants as fault
-use Rattle.wtf_base.specs.declared.ids.InodeId.{InodeId}
-use Rattle.wtf_base.specs.declared.settings.Settings.{Settings}
-use Rattle.wtf_base.specs.declared.slice.Slice.{Slice}
-use Rattle.wtf_dev.specs.Store.{StoreKind, KindLaws}
-use Rattle.wtf_overlay.specs.Origin.{Place, Plans, pieces_origin}
-use Rattle.wtf_overlay.specs.declared.part.Piece.{Piece}
-use Rattle.wtf_overlay.specs.Meaning.{meaning}
-use Rattle.wtf_model.specs.declared.answer.Answer.{Answer}
-use Rattle.wtf_model.specs.declared.answer.Answer.TheVariants as answer
-use Rattle.wtf_model.specs.declared.answer.Word.{Word}
-use Rattle.wtf_model.specs.declared.answer.Word.TheVariants.{NoEnt, IsDir, Long}
-use Rattle.wtf_model.specs.declared.limits.TheConstants.{MAX_DUMPED, MAX_REGIONS}
-use Rattle.wtf_model.specs.Lawful.{MayFailRead, is_short, dumped, or_refusal}
-use Rattle.wtf_model.specs.Tree.{PathSet, Tree, TreeNode, Dir, File, ◌>>=◌, bytes_of}
-use Rattle.wtf_values.specs.declared.key.Key.TheVariants.{Path}
-use Rattle.wtf_values.specs.declared.value.Node.{Node}
-use Rattle.wtf_values.specs.declared.value.Node.TheVariants.{Folder, File as FileNode}
-use Rattle.wtf_values.specs.declared.value.Value.{Value}
-use Rattle.wtf_values.specs.declared.value.Value.TheVariants as value
-use Rattle.wtf_meta.specs.Bytes.{MapBytes, any_slice}
-use Rattle.wtf_meta.specs.Contents.{Told, HasBytes, lists_in}
-use Rattle.wtf_meta.specs.Files.{FileView, IsFile, file_len, file_origin}
-use Rattle.wtf_meta.specs.FileEdits.{file_of}
-use Rattle.wtf_meta.specs.Maps.{Map}
-use Rattle.wtf_meta.specs.NameEdits.{node_of}
-use Rattle.wtf_meta.specs.Trees.{NodeAt, Stands}
-use Rattle.wtf_meta.proofs.Nodes.{FileAt, node_of-is, node-file}
-use Rattle.wtf_meta.proofs.Named.{file_bytes}
-use Rattle.wtf_index.specs.Checks.{stands_at}
-use Rattle.wtf_region.specs.declared.dev.Dev.{Dev}
-use Rattle.wtf_region.specs.Cached.{TrueBut}
-use Rattle.wtf_region.specs.Devs.{IsSoundDev, stores, inside_of, between}
-use Rattle.wtf_region.specs.Reads.{IsFileRead}
-use Rattle.wtf_region.specs.Showing.{Shown}
-use Rattle.wtf_steps.specs.Faults.{LacksBytes}
-use Rattle.wtf_steps.proofs.FaultWays.{IsOfServers, some_byte, lacks_known, file_fault_known}
-use Rattle.wtf_steps.proofs.FileWays.{file_len_cap}
-use Rattle.wtf_rw.specs.Reads.{LacksRead}
-use Rattle.wtf_replay.specs.Causes.{fault_answer}
-use Rattle.wtf_region.specs.Apart.{are_apart}
-use Rattle.wtf_meta.proofs.Weaker.{map_stays}
-use Rattle.wtf_replay.specs.Insides.{lists_have}
-use Rattle.wtf_clients.specs.Views.{TablesView, metadata_now}
-use Rattle.wtf_clients.specs.Turns.{AreTrue}
-use Rattle.wtf_clients.specs.Dumped.{file_answer, IsDumpAnswer, IsTrueFor, IsShownFile, IsDumped, LacksDump}
-use Rattle.wtf_clients.proofs.Lives.{now_bytes}
-use Rattle.wtf_clients.specs.Named.{any_byte, has_copies}
-use Rattle.wtf_clients.specs.Outcomes.{no_load, HasCause}
-use Rattle.wtf_clients.specs.Serves.{IsPlain}
-use Rattle.wtf_clients.proofs.Lacking.{AreFullLists, memory_none, read_caused}
-use Rattle.wtf_clients.specs.Turns.{Dumps}
-use Rattle.wtf_clients.proofs.Staying.{IsFault, fault_is}
-use Rattle.wtf_clients.specs.Dumped.{ReadsBases, dump_bases, dump_bases_of}
-use Rattle.wtf_clients.specs.Seeing.{Seeing}
+use Rattle.wtf_clients.proofs.Common.{if◌then◌else◌, get, le-leb, same_number_lists, Fault, InodeId, Settings, Slice, StoreKind, KindLaws, Place, pieces_origin}
+use Rattle.wtf_clients.proofs.Common.{Piece, meaning, Answer, Word, NoEnt, IsDir, Long, MAX_DUMPED, MAX_REGIONS, MayFailRead, is_short, dumped, or_refusal}
+use Rattle.wtf_clients.proofs.Common.{PathSet, Tree, TreeNode, Dir, File, ◌>>=◌, bytes_of, Path, Node, Folder, Value, MapBytes, any_slice, Told, HasBytes}
+use Rattle.wtf_clients.proofs.Common.{lists_in, FileView, IsFile, file_len, file_origin, file_of, Map, node_of, NodeAt, Stands, FileAt, node_of-is, node-file}
+use Rattle.wtf_clients.proofs.Common.{file_bytes, stands_at, Dev, TrueBut, IsSoundDev, stores, inside_of, between, IsFileRead, Shown, LacksBytes, IsOfServers}
+use Rattle.wtf_clients.proofs.Common.{some_byte, lacks_known, file_fault_known, file_len_cap, LacksRead, fault_answer, are_apart, map_stays, lists_have}
+use Rattle.wtf_clients.proofs.Common.{TablesView, metadata_now, AreTrue, file_answer, IsDumpAnswer, IsTrueFor, IsShownFile, IsDumped, LacksDump, any_byte}
+use Rattle.wtf_clients.proofs.Common.{has_copies, no_load, HasCause, IsPlain, Dumps, ReadsBases, dump_bases, dump_bases_of, Seeing, ◌≡◌, ℕ, ◌+◌, ◌*◌, ◌<◌, ◌≤◌}
+use Rattle.wtf_clients.proofs.Common.{min, nat_le, Bool, true, false, List, [], ◌∷◌, length, get_or, Option, None, Some, Result, Ok, Err, ◌≢◌, refl, sym, ap}
+use Rattle.wtf_clients.proofs.Common.{◌∙◌, subst, inl, inr, ◌⊎◌, arith, zero-add}
+use Rattle.wtf_overlay.specs.Origin.{Plans}
+use Rattle.wtf_values.specs.declared.value.Node.TheVariants.{File as FileNode}
+use Rattle.wtf_clients.proofs.{Lives.now_bytes, Lacking.AreFullLists, Lacking.memory_none, Lacking.read_caused, Staying.IsFault, Staying.fault_is}
 
 -- a file's places from its begin on
 pub plans_whole : (ps : List Piece) (n : ℕ) (f : ℕ → List Place) → Plans ps n (λ i. f (0 + i)) → Plans ps n f
@@ -69,7 +20,7 @@ plans_whole ps n f plans = record { len = plans.len; origin = λ i below. plans.
 -- the bytes that were shown are the file's
 pub shows_file : (told : Told) (z : ℕ) (v : FileView) (ps : List Piece) (n : ℕ) (bytes out : List ℕ) → n ≡ min (file_len z v) (MAX_REGIONS * z)
     → file_len z v ≤ MAX_DUMPED → IsFile z v → HasBytes told z v bytes
-    → Plans ps n (file_origin z (lists_in z told) v) → Shown told n (λ i. pieces_origin ps (0 + i)) [] out → answer.Shown out ≡ file_answer bytes
+    → Plans ps n (file_origin z (lists_in z told) v) → Shown told n (λ i. pieces_origin ps (0 + i)) [] out → Answer.Shown out ≡ file_answer bytes
 shows_file told z v ps n bytes out is short file has plans shown =
     let cap = file_len_cap z v file in
     let len = has.len in
@@ -79,29 +30,29 @@ shows_file told z v ps n bytes out is short file has plans shown =
     let there : meaning told (pieces_origin ps (0 + i)) ≡ Some (get_or bytes i 0) =
     ap (λ j. meaning told (pieces_origin ps j)) (zero-add i) ∙ ap (meaning told) (plans.origin i within) ∙ has.tells i in
     ap (λ l. get_or l i 0) shown.more ∙ shown.are.shows i (get_or bytes i 0) within there) in
-    ap answer.Shown same ∙ sym (ap (λ b. if b then answer.Shown bytes else answer.Refused Long) (le-leb (length bytes) MAX_DUMPED (omega (arith, short, len))))
+    ap Answer.Shown same ∙ sym (ap (λ b. if b then Answer.Shown bytes else Answer.Refused Long) (le-leb (length bytes) MAX_DUMPED (omega (arith, short, len))))
 
 -- what stands at a path, by its value
 module _ (b : ℕ) (told : Told) (w : Map) where
   pub none_at : (v : Option Value) (o : Option TreeNode) → NodeAt b told w v o → node_of v ≡ None → o ≡ None
   none_at None None h is = refl
   none_at None (Some n) h is = absurd h
-  none_at (Some (value.Node n)) o h is = absurd (cc)
-  none_at (Some (value.Names s)) o h is = absurd h
-  none_at (Some (value.Count n)) o h is = absurd h
-  none_at (Some (value.Last r)) o h is = absurd h
-  none_at (Some (value.Region g)) o h is = absurd h
+  none_at (Some (Value.Node n)) o h is = absurd (cc)
+  none_at (Some (Value.Names s)) o h is = absurd h
+  none_at (Some (Value.Count n)) o h is = absurd h
+  none_at (Some (Value.Last r)) o h is = absurd h
+  none_at (Some (Value.Region g)) o h is = absurd h
 
   pub folder_at : (v : Option Value) (o : Option TreeNode) → NodeAt b told w v o → node_of v ≡ Some Folder → o ≡ Some Dir
   folder_at None o h is = absurd (cc)
-  folder_at (Some (value.Node Folder)) None h is = absurd h
-  folder_at (Some (value.Node Folder)) (Some Dir) h is = refl
-  folder_at (Some (value.Node Folder)) (Some (File paths bytes)) h is = absurd h
-  folder_at (Some (value.Node (FileNode i))) o h is = absurd (cc)
-  folder_at (Some (value.Names s)) o h is = absurd h
-  folder_at (Some (value.Count n)) o h is = absurd h
-  folder_at (Some (value.Last r)) o h is = absurd h
-  folder_at (Some (value.Region g)) o h is = absurd h
+  folder_at (Some (Value.Node Folder)) None h is = absurd h
+  folder_at (Some (Value.Node Folder)) (Some Dir) h is = refl
+  folder_at (Some (Value.Node Folder)) (Some (File paths bytes)) h is = absurd h
+  folder_at (Some (Value.Node (FileNode i))) o h is = absurd (cc)
+  folder_at (Some (Value.Names s)) o h is = absurd h
+  folder_at (Some (Value.Count n)) o h is = absurd h
+  folder_at (Some (Value.Last r)) o h is = absurd h
+  folder_at (Some (Value.Region g)) o h is = absurd h
 
   pub file_at : (v : Option Value) (o : Option TreeNode) (i : InodeId) → NodeAt b told w v o → node_of v ≡ Some (FileNode i) → FileAt b told w i o
   file_at v o i h is = node-file b told w v o i h (node_of-is v (FileNode i) is)
@@ -111,12 +62,12 @@ abbrev answer_at : Option TreeNode → Answer
 answer_at o = or_refusal (do
   bytes ← bytes_of o
   _ ← is_short bytes
-  Ok (answer.Shown bytes))
+  Ok (Answer.Shown bytes))
 
 abbrev tested : Bool → Result (Unit {0}) Word
 tested b = if b then Ok tt else Err Long
 
-short_by : (b : Bool) (bytes : List ℕ) → (if b then answer.Shown bytes else answer.Refused Long) ≡ or_refusal (tested b >>= (λ _. Ok (answer.Shown bytes)))
+short_by : (b : Bool) (bytes : List ℕ) → (if b then Answer.Shown bytes else Answer.Refused Long) ≡ or_refusal (tested b >>= (λ _. Ok (Answer.Shown bytes)))
 short_by true bytes = refl
 short_by false bytes = refl
 
@@ -124,8 +75,7 @@ file_whole : (paths : PathSet) (bytes : List ℕ) → file_answer bytes ≡ answ
 file_whole paths bytes = short_by (nat_le (length bytes) MAX_DUMPED) bytes
 
 -- lists that are true for the tables are so for the map now
-pub true_now : (tables : TablesView) (size : ℕ) (told : Told) (lists : TrueBut) → AreTrue size told lists tables
-    → IsTrueFor lists (metadata_now tables.kv)
+pub true_now : (tables : TablesView) (size : ℕ) (told : Told) (lists : TrueBut) → AreTrue size told lists tables → IsTrueFor lists (metadata_now tables.kv)
 true_now tables size told lists kept = (
   kept.ranges,
   kept.cache,
@@ -134,11 +84,11 @@ true_now tables size told lists kept = (
 )
 
 -- so it answers of a path where nothing stands, or a directory, or a file
-pub dumps_none : (z : ℕ) (told : Told) (lists : TrueBut) (w : Map) (p : List ℕ) → stands_at w p ≡ None → IsDumped z told lists w p (answer.Refused NoEnt)
+pub dumps_none : (z : ℕ) (told : Told) (lists : TrueBut) (w : Map) (p : List ℕ) → stands_at w p ≡ None → IsDumped z told lists w p (Answer.Refused NoEnt)
 dumps_none z told lists w p is cache tx k t st = sym (ap answer_at (none_at z told w (w (Path p)) (get t p) (st.nodes p) is))
 
 pub dumps_folder : (z : ℕ) (told : Told) (lists : TrueBut) (w : Map) (p : List ℕ) → stands_at w p ≡ Some Folder → IsDumped z told lists w p
-    (answer.Refused IsDir)
+    (Answer.Refused IsDir)
 dumps_folder z told lists w p is cache tx k t st = sym (ap answer_at (folder_at z told w (w (Path p)) (get t p) (st.nodes p) is))
 
 pub dumps_file : (z : ℕ) (told : Told) (lists : TrueBut) (w : Map) (p : List ℕ) (i : InodeId) (a : Answer) → stands_at w p ≡ Some (FileNode i) →
@@ -148,46 +98,43 @@ dumps_file z told lists w p i a is shows cache tx k t st =
     shows cache st.bytes found.bytes found.body ∙ file_whole found.paths found.bytes ∙ sym (ap answer_at found.there)
 
 -- ---- why the bytes were not shown
-may_read : (servers : ℕ) (why : Fault) (a : Answer) (bytes : List ℕ) (d : Answer) → fault_answer why ≡ Some a → 0 < length bytes → d ≡ answer.Shown bytes →
+may_read : (servers : ℕ) (why : Fault) (a : Answer) (bytes : List ℕ) (d : Answer) → fault_answer why ≡ Some a → 0 < length bytes → d ≡ Answer.Shown bytes →
     IsOfServers servers why → MayFailRead servers d a
 may_read servers why a [] d is some due known = absurd (omega (arith, some))
-may_read servers (fault.Read k) a (b ∷ bs) d is some due known =
-    subst (λ (r : Answer). MayFailRead servers r a) (sym due) (subst (λ (r : Answer). MayFailRead servers (answer.Shown (b ∷ bs)) r)
-    (let e : answer.FaultRead k.0 ≡ a = cc in e) known)
-may_read servers (fault.Damaged k) a (b ∷ bs) d is some due known =
-    subst (λ (r : Answer). MayFailRead servers r a) (sym due) (subst (λ (r : Answer). MayFailRead servers (answer.Shown (b ∷ bs)) r)
-    (let e : answer.Damaged k.0 ≡ a = cc in e) known)
-may_read servers fault.Memory a (b ∷ bs) d is some due known = absurd (memory_none fault.Memory a is refl)
-may_read servers fault.Write a (b ∷ bs) d is some due known = absurd known
-may_read servers (fault.Punch k) a (b ∷ bs) d is some due known = absurd known
+may_read servers (Fault.Read k) a (b ∷ bs) d is some due known =
+    subst (λ (r : Answer). MayFailRead servers r a) (sym due) (subst (λ (r : Answer). MayFailRead servers (Answer.Shown (b ∷ bs)) r)
+    (let e : Answer.FaultRead k.0 ≡ a = cc in e) known)
+may_read servers (Fault.Damaged k) a (b ∷ bs) d is some due known =
+    subst (λ (r : Answer). MayFailRead servers r a) (sym due) (subst (λ (r : Answer). MayFailRead servers (Answer.Shown (b ∷ bs)) r)
+    (let e : Answer.Damaged k.0 ≡ a = cc in e) known)
+may_read servers Fault.Memory a (b ∷ bs) d is some due known = absurd (memory_none Fault.Memory a is refl)
+may_read servers Fault.Write a (b ∷ bs) d is some due known = absurd known
+may_read servers (Fault.Punch k) a (b ∷ bs) d is some due known = absurd known
 
 module _ {S : Type 0} {kind : StoreKind S} (laws : KindLaws kind) (old new : Dev S) (sound : IsSoundDev kind old) (w : Map) (p : List ℕ)
     (inside : MapBytes (inside_of kind old) any_slice w) where
   -- some byte was to be shown, and the server is known
   shown_known : (n : ℕ) (Are : List Piece → Type 0) (why : Fault) (a : Answer) → fault_answer why ≡ Some a → LacksBytes kind old new n Are why → (0 < n)
       × IsOfServers old.settings.servers why
-  shown_known n Are (fault.Read k) a is l = (
+  shown_known n Are (Fault.Read k) a is l = (
     some_byte n l.pieces l.fault.before l.fault.piece l.fault.after l.fault.split,
     subst (λ (st : Settings). k.0 < st.servers) l.goes.settings
         (lacks_known kind (between l.mid new) (stores l.mid) l.mid.settings n k.0 l.pieces l.goes.sound.shelf l.inside l.fault),
   )
-  shown_known n Are fault.Memory a is l = absurd (memory_none fault.Memory a is refl)
-  shown_known n Are fault.Write a is l = absurd l.fault
-  shown_known n Are (fault.Punch k) a is l = absurd l.fault
-  shown_known n Are (fault.Damaged k) a is l = absurd l.fault
+  shown_known n Are Fault.Memory a is l = absurd (memory_none Fault.Memory a is refl)
+  shown_known n Are Fault.Write a is l = absurd l.fault
+  shown_known n Are (Fault.Punch k) a is l = absurd l.fault
+  shown_known n Are (Fault.Damaged k) a is l = absurd l.fault
 
   read_known : (i : InodeId) (n : ℕ) (why : Fault) (a : Answer) → fault_answer why ≡ Some a → LacksRead kind old new (file_of i w) 0 n why → (0 < n)
       × IsOfServers old.settings.servers why
-  read_known i n why a is (inl lacks) = (
-    lacks.some,
-    file_fault_known laws old new (file_of i w) 0 n why sound
-        (file_bytes (inside_of kind old) any_slice i w inside) lacks,
-  )
+  read_known i n why a is (inl lacks) =
+      (lacks.some, file_fault_known laws old new (file_of i w) 0 n why sound (file_bytes (inside_of kind old) any_slice i w inside) lacks)
   read_known i n why a is (inr lacks) = shown_known n (λ ps. IsFileRead kind old new (file_of i w) 0 n ps) why a is lacks
 
   -- so the machine allows the fault
   pub dump_may : (why : Fault) (a : Answer) (told : Told) (tx n : ℕ) (t : Tree) → fault_answer why ≡ Some a
-      → (why ≡ fault.Memory) ⊎ LacksDump kind old new w p why → Stands old.settings.region told tx n w t
+      → (why ≡ Fault.Memory) ⊎ LacksDump kind old new w p why → Stands old.settings.region told tx n w t
       → MayFailRead old.settings.servers (or_refusal (dumped t p)) a
   dump_may why a told tx n t is (inl memory) st = absurd (memory_none why a is memory)
   dump_may why a told tx n t is (inr lacks) st =
@@ -200,16 +147,15 @@ module _ {S : Type 0} {kind : StoreKind S} (laws : KindLaws kind) (old new : Dev
       let count : ℕ = min (file_len z v) (MAX_REGIONS * z) in
       let known = read_known lacks.inode count why a is lacks.file.lacks in
       let some = known.0 in
-      let whole : file_answer bytes ≡ answer.Shown bytes = ap (λ b. if b then answer.Shown bytes else answer.Refused Long)
+      let whole : file_answer bytes ≡ Answer.Shown bytes = ap (λ b. if b then Answer.Shown bytes else Answer.Refused Long)
       (le-leb (length bytes) MAX_DUMPED (omega (arith, short, len))) in
       may_read old.settings.servers why a bytes (or_refusal (dumped t p)) is (omega (arith, some, len))
       (ap answer_at found.there ∙ sym (file_whole found.paths bytes) ∙ whole) known.1
 
   -- and it has its cause
   pub dump_caused : (based : (Slice → Bool) → Type 0) (full : Type 0) (O : Slice → Bool) → ((Q : Slice → Bool) → based Q → MapBytes any_byte Q w)
-      → (full → MapBytes (has_copies old.settings.replicas) O w)
-      → ((i : InodeId) (n : ℕ) → AreFullLists kind old new full O (file_of i w) 0 n)
-      → (why : Fault) (a : Answer) → fault_answer why ≡ Some a → (why ≡ fault.Memory) ⊎ LacksDump kind old new w p why
+      → (full → MapBytes (has_copies old.settings.replicas) O w) → ((i : InodeId) (n : ℕ) → AreFullLists kind old new full O (file_of i w) 0 n)
+      → (why : Fault) (a : Answer) → fault_answer why ≡ Some a → (why ≡ Fault.Memory) ⊎ LacksDump kind old new w p why
       → HasCause kind (between old new) old.settings ⊥ based full no_load a
   dump_caused based full O passes copies lists why a is (inl memory) = absurd (memory_none why a is memory)
   dump_caused based full O passes copies lists why a is (inr lacks) =
@@ -223,21 +169,21 @@ module _ {S : Type 0} {kind : StoreKind S} (laws : KindLaws kind) (old new : Dev
 
 -- what was shown or refused is no fault
 pub dump_plain : (a : Answer) → IsDumpAnswer a → IsPlain a
-dump_plain (answer.Shown bytes) h = tt
-dump_plain (answer.Refused w) h = tt
+dump_plain (Answer.Shown bytes) h = tt
+dump_plain (Answer.Refused w) h = tt
 dump_plain a h = absurd h
 
 -- a dump that is refused reads no list
-pub no_bases : {S : Type 0} (dev : Dev S) (w : Map) (p : List ℕ) (word : Word) → ReadsBases dev dev (dump_bases dev.settings.region w p (answer.Refused word))
+pub no_bases : {S : Type 0} (dev : Dev S) (w : Map) (p : List ℕ) (word : Word) → ReadsBases dev dev (dump_bases dev.settings.region w p (Answer.Refused word))
 no_bases dev w p word = record { facts = []; recalls = refl; wants = by (stands_at w p) }
   where
-    by : (o : Option Node) → [] ≡ dump_bases_of dev.settings.region w o (answer.Refused word)
+    by : (o : Option Node) → [] ≡ dump_bases_of dev.settings.region w o (Answer.Refused word)
     by None = refl
     by (Some Folder) = refl
     by (Some (FileNode i)) = refl
 
 -- a dump answers no collection
-pub uncollected : (z : Seeing) (old new : TablesView) (p : List ℕ) (a : Answer) → Dumps z old new p a → (n : ℕ) → a ≢ answer.Collected n
+pub uncollected : (z : Seeing) (old new : TablesView) (p : List ℕ) (a : Answer) → Dumps z old new p a → (n : ℕ) → a ≢ Answer.Collected n
 uncollected z old new p a dumps n e = elim dumps.answered [
   | inl shown ↦ subst IsDumpAnswer e shown.0
   | inr fault ↦ subst IsFault e (fault_is fault.0 a fault.1)

@@ -1,40 +1,12 @@
 -- What a line of one client leaves to the others.
-use Rattle.std.proofs.Common.{◌≡◌, ◌≢◌, ◌≤◌, ◌<◌, ℕ, ◌+◌, nat_eq, List, [], ◌++◌, append-nil, Option, None, Some, refl, sym, ap, ◌∙◌, subst, ◌⊎◌, ⊎_elim, arith}
-use Rattle.std.specs.Prelude.{IsTrue, if◌then◌else◌}
-use Rattle.std.proofs.lemmas.Bool.{cases_Bool, eqb-true}
-use Rattle.std.specs.List.{Contains}
-use Rattle.std.specs.FinMap.{get}
-use Rattle.std.specs.Option.{option_map}
-use Rattle.wtf_kv.specs.Stores.{Store, is_pinned, times_pinned}
-use Rattle.wtf_kv.proofs.PinLaws.{any-count, count-any}
-use Rattle.wtf_values.specs.declared.key.Key.{Key}
-use Rattle.wtf_values.specs.declared.value.Value.{Value}
-use Rattle.wtf_model.specs.declared.item.Item.{Item}
-use Rattle.wtf_model.specs.Tree.{Tree, root_alone}
-use Rattle.wtf_model.specs.Transaction.{Transaction, Job}
-use Rattle.wtf_model.specs.Machines.{Machine}
-use Rattle.wtf_model.specs.Steps.{touch, touch_job}
-use Rattle.wtf_meta.specs.Contents.{Told, is_told, is_listed}
-use Rattle.wtf_meta.specs.Bytes.{MaybeBytes}
-use Rattle.wtf_meta.specs.Maps.{AllFit, Map, metadata_at}
-use Rattle.wtf_meta.specs.Trees.{LeadsTo, Stands}
-use Rattle.wtf_meta.proofs.Telling.{TellsOn}
-use Rattle.wtf_replay.specs.Views.{TxnView}
-use Rattle.wtf_replay.specs.Tried.{KeepsMaps, KeepsVersions}
-use Rattle.wtf_replay.proofs.Sounding.{sound_later, sound_along}
-use Rattle.wtf_image.specs.Savable.{AreBefore}
-use Rattle.wtf_compact.specs.Jobs.{JobView, target_region}
-use Rattle.wtf_compact.specs.Planned.{KeepsRegion}
-use Rattle.wtf_clients.specs.Views.{BesideView, TablesView, of_client, of_label, metadata_now}
-use Rattle.wtf_clients.specs.Sounds.{owned, all_owned, all_kept, IsOpen, AreSound, Sets}
-use Rattle.wtf_clients.specs.Touched.{SinceBase}
-use Rattle.wtf_clients.specs.Standing.{StandsForTxn, StandsForSlot, StandsForJob, StandsForLabel, TablesStand}
-use Rattle.wtf_clients.proofs.Pins.{number_cases, base_pinned}
-use Rattle.wtf_clients.proofs.Images.{before_same, image_on}
-use Rattle.wtf_clients.proofs.SinceLaws.{TouchedSince, since_kept, touched_kept}
-use Rattle.wtf_clients.proofs.JobKeeping.{known_later, keeps_later}
-use Rattle.wtf_clients.proofs.JobPins.{job_upto}
-use Rattle.wtf_clients.proofs.Later.{Stands-later}
+use Rattle.wtf_clients.proofs.Common.{IsTrue, is_pinned, any-count, count-any, root_alone, touch_job, is_listed, MaybeBytes, BesideView, TablesView, append-nil}
+use Rattle.wtf_clients.proofs.Common.{if◌then◌else◌, get, times_pinned, KeepsVersions, target_region, metadata_now, StandsForTxn, StandsForSlot, StandsForLabel}
+use Rattle.wtf_clients.proofs.Common.{cases_Bool, option_map, Store, Transaction, metadata_at, sound_later, sound_along, KeepsRegion, StandsForJob, TablesStand}
+use Rattle.wtf_clients.proofs.Common.{eqb-true, Contains, Machine, is_told, KeepsMaps, AreBefore, of_client, of_label, all_owned, all_kept, AreSound, SinceBase}
+use Rattle.wtf_clients.proofs.Common.{Key, Item, Tree, Job, Told, Map, Sets, ◌≡◌, ◌≢◌, ◌≤◌, ◌<◌, ℕ, ◌+◌, List, ◌++◌, None, Some, refl, sym, ap, ◌∙◌, ◌⊎◌}
+use Rattle.wtf_clients.proofs.Common.{Value, touch, AllFit, LeadsTo, Stands, TellsOn, TxnView, JobView, owned, IsOpen, nat_eq, [], Option, subst, ⊎_elim, arith}
+use Rattle.wtf_clients.proofs.{Pins.number_cases, Pins.base_pinned, Images.before_same, Images.image_on, SinceLaws.TouchedSince, SinceLaws.since_kept}
+use Rattle.wtf_clients.proofs.{SinceLaws.touched_kept, JobKeeping.known_later, JobKeeping.keeps_later, JobPins.job_upto, Later.Stands-later}
 
 -- What a line of client c changed of the tables: its own transaction is now this one, or none. It is the one that it was by
 -- its number, or the one that begins next.
@@ -56,12 +28,8 @@ open_on kv after next more x is later maps up pinned =
     let older = is.older in
     record {
       going = is.going;
-      fit = record {
-        pinned = pinned;
-        fits = subst (λ w. AllFit x.at.changes w) (sym (maps x.at.base based)) is.fit.fits;
-        log = is.fit.log;
-        most = is.fit.most;
-      };
+      fit =
+          record { pinned = pinned; fits = subst (λ w. AllFit x.at.changes w) (sym (maps x.at.base based)) is.fit.fits; log = is.fit.log; most = is.fit.most };
       based = omega (arith, based, later);
       older = omega (arith, older, up);
     }
@@ -187,8 +155,7 @@ module _ (old new : TablesView) (c : ℕ) (now : Option TxnView) (sound : AreSou
       (λ other.
       let was : of_client old.clients d ≡ Some x = sym (turned.sets.others d other) ∙ is in
       open_on old.kv new.kv old.next_tx new.next_tx x (sound.each d x was) turned.later turned.maps turned.more
-      (base_pinned new.kv new.clients new.beside d x pins_are is))
-      (number_cases d c)
+      (base_pinned new.kv new.clients new.beside d x pins_are is)) (number_cases d c)
 
   -- and no two have one number
   apart_now : (d e : ℕ) (x y : TxnView) → of_client new.clients d ≡ Some x → of_client new.clients e ≡ Some y → x.tx ≡ y.tx → d ≡ e
@@ -200,8 +167,7 @@ module _ (old new : TablesView) (c : ℕ) (now : Option TxnView) (sound : AreSou
       (λ dc. ⊎_elim
       (λ ec. absurd (alone d y x dc (sym turned.sets.is ∙ ap (of_client new.clients) (sym ec) ∙ its) (sym (turned.sets.others d dc) ∙ is) (sym same)))
       (λ ec. sound.apart d e x y (sym (turned.sets.others d dc) ∙ is) (sym (turned.sets.others e ec) ∙ its) same)
-      (number_cases e c))
-      (number_cases d c)
+      (number_cases e c)) (number_cases d c)
 
 -- the tables stay sound
 pub sound_turned : (old new : TablesView) (c : ℕ) (now : Option TxnView) → AreSound old → Turned old new c now → AreSound new
@@ -221,24 +187,19 @@ pub stands_turned : (size : ℕ) (told later : Told) (old new : TablesView) (m a
     → AreSound old → TablesStand size told old m → TellsOn told later → Turned old new c now
     → ((d : ℕ) → d ≢ c → get after.transactions d ≡ option_map (touch more) (get m.transactions d))
     → ((d : ℕ) (x : TxnView) (items : List Item) → d ≢ c → of_client old.clients d ≡ Some x → SinceBase old.kv x.tx x.at.base items
-    → SinceBase new.kv x.tx x.at.base (items ++ more))
-    → ((j : ℕ) → get after.jobs j ≡ option_map (touch_job more) (get m.jobs j))
+    → SinceBase new.kv x.tx x.at.base (items ++ more)) → ((j : ℕ) → get after.jobs j ≡ option_map (touch_job more) (get m.jobs j))
     → ((base : ℕ) (items : List Item) → base ≤ old.kv.number → TouchedSince old.kv base items → TouchedSince new.kv base (items ++ more))
-    → after.number ≡ new.kv.number
-    → after.may_be_saved ≡ m.may_be_saved
-    → AreBefore new.next_tx (metadata_now new.kv)
+    → after.number ≡ new.kv.number → after.may_be_saved ≡ m.may_be_saved → AreBefore new.next_tx (metadata_now new.kv)
     → StandsForSlot size later new.kv after.now now (get after.transactions c)
     → ((tx : ℕ) → ((x : TxnView) → of_client old.clients c ≡ Some x → tx ≢ x.tx) → Stands size told tx 0 (metadata_now old.kv) m.now
-    → Stands size later tx 0 (metadata_now new.kv) after.now)
-    → TablesStand size later new after
+    → Stands size later tx 0 (metadata_now new.kv) after.now) → TablesStand size later new after
 stands_turned size told later old new m after c now more sound st on turned others since jobs touched number may before here trees =
     let apart : (d : ℕ) (x y : TxnView) → d ≢ c → of_client old.clients d ≡ Some x → of_client old.clients c ≡ Some y → x.tx ≢ y.tx =
     λ d x y ne is its same. ne (sound.apart d c x y is its same) in
     let other : (d : ℕ) → d ≢ c → StandsForSlot size later new.kv after.now (of_client old.clients d) (option_map (touch more) (get m.transactions d)) = λ d ne.
     slot_on size told later old.kv new.kv m.now after.now more (of_client old.clients d) (get m.transactions d)
     (λ x t is txn. txn_on size told later old.kv new.kv m.now after.now x t more on (sound.each d x is).based turned.maps
-    (trees x.tx (λ y its. apart d x y ne is its) txn.now) (since d x t.touched ne is txn.since) txn)
-    (st.each d) in
+    (trees x.tx (λ y its. apart d x y ne is its) txn.now) (since d x t.touched ne is txn.since) txn) (st.each d) in
     record {
       number = number;
       each = λ d. ⊎_elim
@@ -247,16 +208,14 @@ stands_turned size told later old new m after c now more sound st on turned othe
           (subst (λ s. StandsForSlot size later new.kv after.now s (get after.transactions c)) (sym turned.sets.is) here))
           (λ ne.
           subst (λ s. StandsForSlot size later new.kv after.now s (get after.transactions d)) (sym (turned.sets.others d ne))
-          (subst (λ o. StandsForSlot size later new.kv after.now (of_client old.clients d) o) (sym (others d ne)) (other d ne)))
-          (number_cases d c);
+          (subst (λ o. StandsForSlot size later new.kv after.now (of_client old.clients d) o) (sym (others d ne)) (other d ne))) (number_cases d c);
       jobs = λ j.
           let same : of_label new.beside.jobs j ≡ of_label old.beside.jobs j = ap (λ (s : BesideView). of_label s.jobs j) turned.beside in
           subst (λ s. StandsForLabel size later new.kv s (get after.jobs j)) (sym same)
           (subst (λ o. StandsForLabel size later new.kv (of_label old.beside.jobs j) o) (sym (jobs j))
           (label_on size told later old.kv new.kv more (of_label old.beside.jobs j) (get m.jobs j)
           (λ x t is job. job_on size told later old.kv new.kv x t more on (turned.maps x.base (job_upto old j x sound is))
-          (touched x.base t.touched (job_upto old j x sound is) job.touched) job)
-          (st.jobs j)));
+          (touched x.base t.touched (job_upto old j x sound is) job.touched) job) (st.jobs j)));
       later = λ tx le.
           let up = turned.more in
           trees tx (λ x is same. let older = (sound.each c x is).older in absurd (omega (arith, older, same, up, le))) (st.later tx (omega (arith, up, le)));
@@ -269,13 +228,10 @@ stands_turned size told later old new m after c now more sound st on turned othe
     }
 
 -- So they do where nothing was installed, for a machine that differs in the client's own transaction alone.
-pub stands_kept : (size : ℕ) (told later : Told) (old new : TablesView) (m after : Machine) (c : ℕ) (now : Option TxnView)
-    → AreSound old → TablesStand size told old m → TellsOn told later → Turned old new c now
-    → new.kv.number ≡ old.kv.number → KeepsVersions old.kv new.kv
-    → ((d : ℕ) → d ≢ c → get after.transactions d ≡ get m.transactions d)
-    → after.number ≡ m.number → after.now ≡ m.now → after.may_be_saved ≡ m.may_be_saved → after.jobs ≡ m.jobs
-    → StandsForSlot size later new.kv after.now now (get after.transactions c)
-    → TablesStand size later new after
+pub stands_kept : (size : ℕ) (told later : Told) (old new : TablesView) (m after : Machine) (c : ℕ) (now : Option TxnView) → AreSound old
+    → TablesStand size told old m → TellsOn told later → Turned old new c now → new.kv.number ≡ old.kv.number → KeepsVersions old.kv new.kv
+    → ((d : ℕ) → d ≢ c → get after.transactions d ≡ get m.transactions d) → after.number ≡ m.number → after.now ≡ m.now → after.may_be_saved ≡ m.may_be_saved
+    → after.jobs ≡ m.jobs → StandsForSlot size later new.kv after.now now (get after.transactions c) → TablesStand size later new after
 stands_kept size told later old new m after c now sound st on turned number versions others number2 tree may jobs here =
     let same : metadata_now new.kv ≡ metadata_now old.kv = ap (metadata_at new.kv) number ∙ turned.maps old.kv.number (omega arith) in
     stands_turned size told later old new m after c now [] sound st on turned
@@ -283,8 +239,6 @@ stands_kept size told later old new m after c now sound st on turned number vers
     (λ d x items ne is was. since_kept old.kv new.kv x.tx x.at.base items was (sound.each d x is).based turned.maps number versions)
     (λ j. untouched_job (get m.jobs j) (get after.jobs j) (ap (λ js. get js j) jobs))
     (λ base items based was. touched_kept old.kv new.kv base items was based turned.maps number versions)
-    (number2 ∙ st.number ∙ sym number) may
-    (before_same old.next_tx new.next_tx (metadata_now old.kv) (metadata_now new.kv) same turned.more st.before)
-    here
+    (number2 ∙ st.number ∙ sym number) may (before_same old.next_tx new.next_tx (metadata_now old.kv) (metadata_now new.kv) same turned.more st.before) here
     (λ tx other was. subst (λ u. Stands size later tx 0 (metadata_now new.kv) u) (sym tree)
     (subst (λ w. Stands size later tx 0 w m.now) (sym same) (Stands-later told later on size tx 0 (metadata_now old.kv) m.now was)))

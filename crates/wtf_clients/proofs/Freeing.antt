@@ -1,34 +1,12 @@
 -- What a collection freed: ranges of garbage, in their files, also where the server failed before it was done.
 -- NSDI 2016, section 2.8 (garbage collection in two scans).
-use Rattle.std.proofs.Common.{◌≡◌, ℕ, ◌+◌, ◌-◌, ◌*◌, ◌<◌, Bool, true, false, ◌&&◌, ◌||◌, cond, nat_eq, nat_le, nat_lt, List, [], ◌∷◌, ◌++◌}
-use Rattle.std.proofs.Common.{refl, sym, ap, ◌∙◌, subst, ⊎_elim, arith}
-use Rattle.std.specs.Prelude.{not, slice_index_or}
-use Rattle.std.specs.List.{All}
-use Rattle.std.proofs.lemmas.Bool.{and_parts, and_from, or_left, or_right, or_cases, or_from, not-true, both_ways, cases_Bool, true≢false, eqb-true, eq-eqb}
-use Rattle.std.proofs.lemmas.Bool.{ltb-true, lt-ltb, le-leb}
-use Rattle.std.proofs.lemmas.List.Elements.{All-nil, All-cons, All-head, All-tail}
-use Rattle.std.proofs.lemmas.List.Folds.{list_any-append}
-use Rattle.wtf_base.specs.declared.settings.Settings.{Settings}
-use Rattle.wtf_dev.specs.Each.{EachFollows}
-use Rattle.wtf_dev.specs.Store.{Range, StoreKind, KindLaws}
-use Rattle.wtf_dev.proofs.Each.{each_same}
-use Rattle.wtf_overlay.specs.Origin.{Place}
-use Rattle.wtf_replica.specs.Faults.{punched_on}
-use Rattle.wtf_model.specs.declared.answer.Answer.{Answer}
-use Rattle.wtf_model.specs.declared.answer.Answer.TheVariants as answer
-use Rattle.wtf_model.specs.declared.answer.Word.TheVariants.{NoServer, NoScan}
-use Rattle.wtf_region.specs.declared.dev.Dev.{Dev}
-use Rattle.wtf_region.specs.Apart.{lies_in, lies_apart, are_apart, with_ranges}
-use Rattle.wtf_region.specs.Cached.{CacheTrue}
-use Rattle.wtf_region.specs.Devs.{GoesOn, stores, remembered, is_down_in, shown_in}
-use Rattle.wtf_region.proofs.Spans.{goes_on}
-use Rattle.wtf_gc.specs.declared.extent.Extent.{Extent}
-use Rattle.wtf_gc.specs.Extents.{extents_cover}
-use Rattle.wtf_gc.specs.Frees.{LiesOn, AreApart, CountsFreed, lie_in, tried_on}
-use Rattle.wtf_gc.specs.Views.{ScanView, GcView, mark_of, is_garbage}
-use Rattle.wtf_clients.specs.Views.{TablesView, with_gc}
-use Rattle.wtf_clients.specs.Safe.{off, is_below, AreUpto}
-use Rattle.wtf_clients.specs.ScanTurns.{KeepsStore, CollectsAll, CollectsSome, CollectTurn}
+use Rattle.wtf_clients.proofs.Common.{not, slice_index_or, All, and_parts, and_from, or_left, or_right, or_cases, or_from, not-true, both_ways, cases_Bool}
+use Rattle.wtf_clients.proofs.Common.{true≢false, eqb-true, eq-eqb, ltb-true, lt-ltb, le-leb, All-nil, All-cons, All-head, All-tail, list_any-append, Settings}
+use Rattle.wtf_clients.proofs.Common.{EachFollows, Range, StoreKind, KindLaws, each_same, Place, punched_on, Answer, NoServer, NoScan, Dev, lies_in, lies_apart}
+use Rattle.wtf_clients.proofs.Common.{are_apart, with_ranges, CacheTrue, GoesOn, stores, remembered, is_down_in, shown_in, goes_on, Extent, extents_cover}
+use Rattle.wtf_clients.proofs.Common.{LiesOn, AreApart, CountsFreed, lie_in, tried_on, ScanView, GcView, mark_of, is_garbage, TablesView, with_gc, off}
+use Rattle.wtf_clients.proofs.Common.{is_below, AreUpto, KeepsStore, CollectsAll, CollectsSome, CollectTurn, ◌≡◌, ℕ, ◌+◌, ◌-◌, ◌*◌, ◌<◌, Bool, true, false}
+use Rattle.wtf_clients.proofs.Common.{◌&&◌, ◌||◌, cond, nat_eq, nat_le, nat_lt, List, [], ◌∷◌, ◌++◌, refl, sym, ap, ◌∙◌, subst, ⊎_elim, arith}
 use Rattle.wtf_clients.proofs.Punched.{tried_among}
 
 -- ---- ranges of garbage
@@ -46,12 +24,10 @@ off_both X Y ranges only [] h apart = refl
 off_both X Y ranges only (q ∷ qs) h apart =
     let was = and_parts (not (X q)) (off X qs) h in
     let is = and_parts (lies_apart ranges q) (are_apart ranges qs) apart in
-    and_from (not (Y q)) (off Y qs)
-    (⊎_elim
+    and_from (not (Y q)) (off Y qs) (⊎_elim
     (λ here. absurd (both_ways (X q || lie_in ranges q) (or_from (X q) (lie_in ranges q) (not-true (X q) was.0) (out_of ranges q is.0)) (only q here)))
     (λ none. ap not none)
-    (cases_Bool (Y q)))
-    (off_both X Y ranges only qs was.1 is.1)
+    (cases_Bool (Y q))) (off_both X Y ranges only qs was.1 is.1)
 
 -- the first of ranges that share no byte, with one behind them that was tried, share none
 pub front_apart : (rs rest : List (ℕ × Range)) (down : Bool) (k : ℕ) (r : Range) → AreApart (rs ++ (k, r) ∷ rest) → AreApart (rs ++ punched_on down k r)
@@ -71,8 +47,7 @@ pub more_behind : (b : Bool) (rs qs : List (ℕ × Range)) (p : Place) → (b ||
 more_behind b rs qs p h = ⊎_elim
     (λ was. or_left b (lie_in (rs ++ qs) p) was)
     (λ there. or_right b (lie_in (rs ++ qs) p)
-    (list_any-append (λ r. lies_in p r) rs qs ∙ or_left (lie_in rs p) (lie_in qs p) there))
-    (or_cases b (lie_in rs p) h)
+    (list_any-append (λ r. lies_in p r) rs qs ∙ or_left (lie_in rs p) (lie_in qs p) there)) (or_cases b (lie_in rs p) h)
 
 -- ---- what a collection did
 -- other extents were freed, and all else of the tables is as it was
@@ -102,9 +77,8 @@ kept_freed old new ranges keeps c =
 
 module _ {S : Type 0} {kind : StoreKind S} (laws : KindLaws kind) (before after : Dev S) (old new : TablesView) (k : ℕ) where
   -- ranges that were garbage of server k
-  freed_by : (ranges : List (ℕ × Range)) → AreApart ranges
-      → ((p : Place) → lie_in ranges p ≡ true → (nat_eq p.server k && is_garbage old.beside.gc p) ≡ true) → k < before.settings.servers
-      → GoesOn kind before after ranges → new ≡ with_freed old new.beside.gc.freed
+  freed_by : (ranges : List (ℕ × Range)) → AreApart ranges → ((p : Place) → lie_in ranges p ≡ true → (nat_eq p.server k && is_garbage old.beside.gc p) ≡ true)
+      → k < before.settings.servers → GoesOn kind before after ranges → new ≡ with_freed old new.beside.gc.freed
       → ((p : Place) → extents_cover new.beside.gc.freed p ≡ true → (extents_cover old.beside.gc.freed p || lie_in ranges p) ≡ true)
       → Freed kind before after old new
   freed_by ranges apart are known goes is only = record {
@@ -152,10 +126,10 @@ module _ {S : Type 0} {kind : StoreKind S} (laws : KindLaws kind) (before after 
   }
 
   pub collect_freed : (a : Answer) → CollectTurn kind before after old new k a → Freed kind before after old new
-  collect_freed (answer.Refused NoServer) h = none_freed h.0 h.1
-  collect_freed (answer.Refused NoScan) h = none_freed h.0 h.1
-  collect_freed (answer.Collected n) h = all_freed n h.0 h.1
-  collect_freed (answer.FaultPunch j) h = some_freed j h.0 h.1
+  collect_freed (Answer.Refused NoServer) h = none_freed h.0 h.1
+  collect_freed (Answer.Refused NoScan) h = none_freed h.0 h.1
+  collect_freed (Answer.Collected n) h = all_freed n h.0 h.1
+  collect_freed (Answer.FaultPunch j) h = some_freed j h.0 h.1
   collect_freed a h = absurd h
 
 -- ---- where ranges lie

@@ -1,33 +1,12 @@
 -- Lines of clients name what was named, or was just added; and whoever is open goes on from who was.
-use Rattle.std.proofs.Common.{◌≡◌, ℕ, Bool, true, List, [], Option, None, Some, refl, sym, ap, ◌∙◌, subst, ⊎_elim}
-use Rattle.wtf_base.specs.declared.slice.Slice.{Slice}
-use Rattle.wtf_overlay.specs.Origin.{Place}
-use Rattle.wtf_kv.specs.Stores.{Store}
-use Rattle.wtf_values.specs.declared.key.Key.{Key}
-use Rattle.wtf_values.specs.declared.value.Value.{Value}
-use Rattle.wtf_values.specs.declared.value.Value.TheVariants as value
-use Rattle.wtf_meta.specs.Bytes.{MapBytes, MaybeBytes, ValueBytes}
-use Rattle.wtf_meta.specs.Contents.{Told, is_told, is_listed}
-use Rattle.wtf_meta.specs.Maps.{Map, metadata_at}
-use Rattle.wtf_meta.proofs.Telling.{TellsOn}
-use Rattle.wtf_meta.proofs.Weaker.{maybe_stays}
-use Rattle.wtf_replay.specs.Insides.{lists_have}
-use Rattle.wtf_replay.specs.Tried.{KeepsMaps}
-use Rattle.wtf_replay.specs.Views.{TxnView, hand_of}
-use Rattle.wtf_replay.proofs.Naming.{again_weaker}
-use Rattle.wtf_compact.specs.Jobs.{JobView, target_region}
-use Rattle.wtf_clients.specs.Views.{BesideView, TablesView, of_client, of_label, was_job}
-use Rattle.wtf_clients.specs.Sounds.{AreSound, Sets}
+use Rattle.wtf_clients.proofs.Common.{Slice, Place, Store, Key, Value, MapBytes, MaybeBytes, ValueBytes, Told, is_told, is_listed, Map, metadata_at, TellsOn}
+use Rattle.wtf_clients.proofs.Common.{maybe_stays, lists_have, KeepsMaps, TxnView, hand_of, again_weaker, JobView, target_region, BesideView, TablesView}
+use Rattle.wtf_clients.proofs.Common.{of_client, of_label, was_job, AreSound, Sets, NamesTables, Ends, IsOwnTxn, IsOwnJob, FollowsTxn, FollowsJob, Went, ◌≡◌, ℕ}
+use Rattle.wtf_clients.proofs.Common.{Bool, true, List, [], Option, None, Some, refl, sym, ap, ◌∙◌, subst, ⊎_elim}
 use Rattle.wtf_clients.specs.Named.{ListedBytes}
-use Rattle.wtf_clients.specs.Serves.{NamesTables}
-use Rattle.wtf_clients.specs.Turns.{Ends}
-use Rattle.wtf_clients.specs.Safe.{IsOwnTxn, IsOwnJob, FollowsTxn, FollowsJob, Went}
-use Rattle.wtf_clients.proofs.JobPins.{job_upto, job_pinned}
-use Rattle.wtf_clients.proofs.Lives.{live_upto, pinned_live, Reaches, ended_reaches}
-use Rattle.wtf_clients.proofs.Pins.{number_cases}
-use Rattle.wtf_clients.proofs.SafeLaws.{region_had, map_region}
-use Rattle.wtf_clients.proofs.ScanLaws.{own_txn_along, own_job_along}
-use Rattle.wtf_clients.proofs.ToldLaws.{listed_later, tables_later}
+use Rattle.wtf_clients.proofs.{JobPins.job_upto, JobPins.job_pinned, Lives.live_upto, Lives.pinned_live, Lives.Reaches, Lives.ended_reaches, Pins.number_cases}
+use Rattle.wtf_clients.proofs.{SafeLaws.region_had, SafeLaws.map_region, ScanLaws.own_txn_along, ScanLaws.own_job_along, ToldLaws.listed_later}
+use Rattle.wtf_clients.proofs.{ToldLaws.tables_later}
 
 -- who stays follows himself
 pub stays_txn : (Added : (List Place → Bool) → Type 0) (o : Option TxnView) (y : TxnView) → o ≡ Some y → FollowsTxn Added o y
@@ -45,11 +24,11 @@ module _ (size : ℕ) (told later : Told) (on : TellsOn told later) where
       by : (v : Option Value) → ValueBytes (is_told told) (is_listed size told) v → ValueBytes P (lists_have size later P) v
           → ValueBytes P (lists_have size told P) v
       by None k b = tt
-      by (Some (value.Node n)) k b = tt
-      by (Some (value.Names ns)) k b = tt
-      by (Some (value.Count n)) k b = tt
-      by (Some (value.Last r)) k b = tt
-      by (Some (value.Region v)) k b = region_had size told later P on (Some v) k b
+      by (Some (Value.Node n)) k b = tt
+      by (Some (Value.Names ns)) k b = tt
+      by (Some (Value.Count n)) k b = tt
+      by (Some (Value.Last r)) k b = tt
+      by (Some (Value.Region v)) k b = region_had size told later P on (Some v) k b
 
   pub own_txn_later : (kv : Store Key Value) (x : TxnView) → MapBytes (is_told told) (is_listed size told) (metadata_at kv x.at.base)
       → IsOwnTxn size told kv x → IsOwnTxn size later kv x
@@ -59,8 +38,7 @@ module _ (size : ℕ) (told later : Told) (on : TellsOn told later) where
       (was.hand, was.log) in
       record { hand = both.0; log = both.1 }
 
-  pub own_job_later : (kv : Store Key Value) (x : JobView)
-      → MaybeBytes (is_told told) (is_listed size told) (target_region (metadata_at kv x.base) x.target)
+  pub own_job_later : (kv : Store Key Value) (x : JobView) → MaybeBytes (is_told told) (is_listed size told) (target_region (metadata_at kv x.base) x.target)
       → IsOwnJob size told kv x → IsOwnJob size later kv x
   own_job_later kv x known own P hole base stored =
       maybe_stays P P (λ qs is. is) (lists_have size told P) (lists_have size later P) (listed_later size told later P on) x.value
@@ -94,15 +72,13 @@ module _ (size : ℕ) (told later : Told) (on : TellsOn told later) where
           (λ other.
           let was : of_client old.clients d ≡ Some y = sym (sets.others d other) ∙ is in
           let based = (sound.each d y was).based in
-          own_txn_along size later old.kv new.kv y (maps y.at.base based)
-          (own_txn_later old.kv y (names.each d y was).hand.base (owned d y was)))
+          own_txn_along size later old.kv new.kv y (maps y.at.base based) (own_txn_later old.kv y (names.each d y was).hand.base (owned d y was)))
           (number_cases d c);
       own_jobs = λ owned j y is.
           let was = was_there j y is in
           let P : List Place → Bool = is_told told in
           let Q : Slice → Bool = is_listed size told in
-          own_job_along size later old.kv new.kv y (maps y.base (job_upto old j y sound was))
-          (own_job_later old.kv y
+          own_job_along size later old.kv new.kv y (maps y.base (job_upto old j y sound was)) (own_job_later old.kv y
           (map_region P Q (metadata_at old.kv y.base) (names.live y.base (pinned_live old.kv y.base (job_pinned old j y sound was)))
           y.target.inode y.target.region) (owned j y was));
     }
@@ -112,8 +88,7 @@ module _ (size : ℕ) (told later : Told) (on : TellsOn told later) where
       (known : ListedBytes size told (is_told told) old) where
     -- where no more is named than was
     pub stays_went : (now : Option TxnView) → Sets c now old.clients new.clients → KeepsMaps old.kv new.kv → Reaches old.kv new.kv
-        → new.beside ≡ old.beside → NamesTables old new → ((y : TxnView) → now ≡ Some y → of_client old.clients c ≡ Some y)
-        → Went size told later Added old new
+        → new.beside ≡ old.beside → NamesTables old new → ((y : TxnView) → now ≡ Some y → of_client old.clients c ≡ Some y) → Went size told later Added old new
     stays_went now sets maps reach beside names was =
         client_went Added old new c now sound sets maps reach beside known
         (λ P hole added h. names P (lists_have size later P) hole (tables_later size told later P on old h))
@@ -125,8 +100,7 @@ module _ (size : ℕ) (told later : Told) (on : TellsOn told later) where
 
     -- where it left the store so
     pub ends_went : (mid : Store Key Value) (x : TxnView) → Ends old new mid c x
-        → ((P : List Place → Bool) → P [] ≡ true → Added P → ListedBytes size told P old → ListedBytes size later P new)
-        → Went size told later Added old new
+        → ((P : List Place → Bool) → P [] ≡ true → Added P → ListedBytes size told P old → ListedBytes size later P new) → Went size told later Added old new
     ends_went mid x ends carries =
         client_went Added old new c None sound ends.clients (λ n le. ap (λ (s : Store Key Value). metadata_at s n) ends.kv ∙ ends.maps n le)
         (ended_reaches old.kv mid new.kv x.at.base ends.pins ends.unpinned) ends.beside known carries

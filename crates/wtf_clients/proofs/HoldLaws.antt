@@ -1,28 +1,11 @@
 -- What holds a scan back is what the definitions say.
-use Rattle.std.proofs.Common.{◌≡◌, ◌≢◌, ◌<◌, ℕ, ◌&&◌, Bool, true, false, cond, T, nat_lt, List, [], ◌∷◌, Option, None, Some, is_some, refl, sym, ap, ◌∙◌}
-use Rattle.std.proofs.Common.{subst, ⊎_elim, arith}
-use Rattle.std.proofs.lemmas.Bool.{cases_Bool, cases_lt, and_parts, lt-ltb, le-ltb, true≢false}
-use Rattle.std.proofs.lemmas.Cmp.{ranked, tied_itself, nat_cmp_total}
-use Rattle.std.specs.Prelude.{if◌then◌else◌}
-use Rattle.std.specs.FinMap.{get, entries, entries_sorted, get-entries}
-use Rattle.std.specs.FinMap.Entries.{find, is_sorted, below_all}
-use Rattle.std.specs.List.{filter}
-use Rattle.std.specs.Option.{unwrap_or}
-use Rattle.std.specs.Ordering.{nat_cmp, eq_by_cmp, is_eq, is_lt}
-use Rattle.std.specs.declared.cmp.Ordering.{Ordering}
-use Rattle.std.specs.declared.cmp.Ordering.TheVariants.{Less, Equal, Greater}
-use Rattle.wtf_model.specs.declared.event.Holder.{Holder}
-use Rattle.wtf_model.specs.declared.event.Holder.TheVariants as holder
-use Rattle.wtf_model.specs.Machines.{Machine}
-use Rattle.wtf_model.specs.Scans.{was_open, earlier, first_begun, lowest, client_or_job, held_by}
-use Rattle.wtf_model.specs.Transaction.{Transaction, Job}
-use Rattle.wtf_meta.specs.Contents.{Told}
-use Rattle.wtf_replay.specs.Views.{TxnView}
-use Rattle.wtf_compact.specs.Jobs.{JobView}
-use Rattle.wtf_clients.specs.Views.{TablesView, of_client, of_label, was_job}
-use Rattle.wtf_clients.specs.Sounds.{AreSound}
-use Rattle.wtf_clients.specs.Standing.{StandsForSlot, StandsForLabel, TablesStand, StampsStand}
-use Rattle.wtf_clients.specs.ScanTurns.{NoneOld, NoOldJob, HoldsBack, IsScanHolder, is_old_job}
+use Rattle.wtf_clients.proofs.Common.{cases_Bool, cases_lt, and_parts, lt-ltb, le-ltb, true≢false, ranked, tied_itself, nat_cmp_total, if◌then◌else◌, get}
+use Rattle.wtf_clients.proofs.Common.{entries, entries_sorted, get-entries, find, is_sorted, below_all, filter, unwrap_or, nat_cmp, eq_by_cmp, is_eq, is_lt}
+use Rattle.wtf_clients.proofs.Common.{Ordering, Less, Equal, Greater, Holder, Machine, was_open, earlier, lowest, client_or_job, held_by, Transaction, Job}
+use Rattle.wtf_clients.proofs.Common.{Told, TxnView, JobView, TablesView, of_client, of_label, was_job, AreSound, StandsForSlot, StandsForLabel, TablesStand}
+use Rattle.wtf_clients.proofs.Common.{StampsStand, NoneOld, NoOldJob, HoldsBack, IsScanHolder, is_old_job, ◌≡◌, ◌≢◌, ◌<◌, ℕ, ◌&&◌, Bool, true, false, cond, T}
+use Rattle.wtf_clients.proofs.Common.{nat_lt, List, [], ◌∷◌, Option, None, Some, is_some, refl, sym, ap, ◌∙◌, subst, ⊎_elim, arith}
+use Rattle.wtf_model.specs.Scans.{first_begun}
 
 -- ---- entries in the order of their keys
 first_part : (a b : Bool) → T (a && b) → T a
@@ -99,8 +82,7 @@ module _ {X : Type 0} where
 
 -- ---- the client that began first
 module _ (p : ℕ × Transaction → Bool) where
-  one_first : (e : ℕ × Transaction) (es : List (ℕ × Transaction)) → p e ≡ true
-      → first_begun (filter p (e ∷ es)) ≡ Some (earlier e (first_begun (filter p es)))
+  one_first : (e : ℕ × Transaction) (es : List (ℕ × Transaction)) → p e ≡ true → first_begun (filter p (e ∷ es)) ≡ Some (earlier e (first_begun (filter p es)))
   unfolding first_begun
   one_first e es is = ap (λ b. first_begun (cond b (e ∷ filter p es) (filter p es))) is
 
@@ -118,8 +100,7 @@ module _ (p : ℕ × Transaction → Bool) where
       (cases_Bool (p e))
     where
       of_front : p e ≡ true → e ≡ f → (find nat_cmp f.0 (e ∷ es) ≡ Some f.1) × (p f ≡ true)
-      of_front here same =
-          subst (λ (g : ℕ × Transaction). (find nat_cmp g.0 (e ∷ es) ≡ Some g.1) × (p g ≡ true)) same (at_front e es, here)
+      of_front here same = subst (λ (g : ℕ × Transaction). (find nat_cmp g.0 (e ∷ es) ≡ Some g.1) × (p g ≡ true)) same (at_front e es, here)
 
       by : p e ≡ true → (first_begun (filter p es) ≡ Some f → (find nat_cmp f.0 (e ∷ es) ≡ Some f.1) × (p f ≡ true)) → (o : Option (ℕ × Transaction))
           → first_begun (filter p es) ≡ o → earlier e o ≡ f → (find nat_cmp f.0 (e ∷ es) ≡ Some f.1) × (p f ≡ true)
@@ -153,8 +134,7 @@ module _ (p : ℕ × Transaction → Bool) where
       one_first e es one ∙ ap (λ o. Some (earlier e o)) rest
       ∙ ap (λ b. Some (if b then (c, t) else e)) (lt-ltb t.stamp e.1.stamp lt))
       (λ none. ap first_begun (kept_front p e es false none) ∙ rest)
-      (cases_Bool (p e)))
-      (cases_Bool (eq_by_cmp nat_cmp c e.0))
+      (cases_Bool (p e))) (cases_Bool (eq_by_cmp nat_cmp c e.0))
     where
       front : (o : Option (ℕ × Transaction)) → first_begun (filter p es) ≡ o → c ≡ e.0 → e.1.stamp ≡ t.stamp → earlier e o ≡ e
       front None at key stamp = refl
@@ -167,14 +147,14 @@ module _ (p : ℕ × Transaction → Bool) where
 -- ---- the job of the lowest label
 module _ (p : ℕ × Job → Bool) where
   pub lowest_found : (es : List (ℕ × Job)) → T (is_sorted nat_cmp es) → (j : ℕ) (x : Job) → find nat_cmp j es ≡ Some x → p (j, x) ≡ true
-      → ((d : ℕ) (u : Job) → find nat_cmp d es ≡ Some u → d < j → p (d, u) ≡ false) → lowest (filter p es) ≡ Some (holder.Job j)
+      → ((d : ℕ) (u : Job) → find nat_cmp d es ≡ Some u → d < j → p (d, u) ≡ false) → lowest (filter p es) ≡ Some (Holder.Job j)
   lowest_found [] sorted j x is passes low = absurd (cc)
   lowest_found (e ∷ es) sorted j x is passes low = ⊎_elim
       (λ here.
       let key : j ≡ e.0 = same_key j e.0 here in
       let value : e.1 ≡ x = some_same e.1 x (sym (ap (λ b. cond b (Some e.1) (find nat_cmp j es)) here) ∙ is) in
       let pair : ◌≡◌ {A = ℕ × Job} e (j, x) = ap (λ n. (n, e.1)) (sym key) ∙ ap (λ v. (j, v)) value in
-      ap lowest (kept_front p e es true (ap p pair ∙ passes)) ∙ ap (λ n. Some (holder.Job n)) (sym key))
+      ap lowest (kept_front p e es true (ap p pair ∙ passes)) ∙ ap (λ n. Some (Holder.Job n)) (sym key))
       (λ past.
       let there : find nat_cmp j es ≡ Some x = sym (ap (λ b. cond b (Some e.1) (find nat_cmp j es)) past) ∙ is in
       let up : e.0 < j = above e.0 es (below_of e es sorted) j x there in
@@ -218,8 +198,7 @@ module _ (size : ℕ) (told : Told) (tables : TablesView) (m : Machine) (stand :
   pub job_of : (j : ℕ) (x : JobView) → of_label tables.beside.jobs j ≡ Some x → (t : Job) × (get m.jobs j ≡ Some t)
   job_of j x is = by (of_label tables.beside.jobs j) (get m.jobs j) refl (stand.jobs j) is
     where
-      by : (s : Option JobView) (o : Option Job) → get m.jobs j ≡ o → StandsForLabel size told tables.kv s o → s ≡ Some x
-          → (t : Job) × (get m.jobs j ≡ Some t)
+      by : (s : Option JobView) (o : Option Job) → get m.jobs j ≡ o → StandsForLabel size told tables.kv s o → s ≡ Some x → (t : Job) × (get m.jobs j ≡ Some t)
       by None None at h e = absurd (cc)
       by (Some y) None at h e = absurd h
       by s (Some t) at h e = (t, at)
@@ -261,10 +240,10 @@ module _ (size : ℕ) (told : Told) (tables : TablesView) (m : Machine) (stand :
         (st.jobs j x.0 u x.1 at).1 ∙ sym (ap (λ (o : Option JobView). is_some o && was_job tables.beside j) x.1) ∙ is
 
     pub held_is : (h : Holder) → IsScanHolder tables h → held_by m ≡ Some h
-    held_is (holder.Client c) h =
+    held_is (Holder.Client c) h =
         let t = open_of c h.txn h.there in
         ap (λ o. client_or_job o (lowest (filter is_old_one (entries m.jobs)))) (first_back c h t.0 t.1)
-    held_is (holder.Job j) h =
+    held_is (Holder.Job j) h =
         let old = and_parts (is_some (of_label tables.beside.jobs j)) (was_job tables.beside j) h.1.old in
         let u = by_label (of_label tables.beside.jobs j) refl old.0 in
         ap (λ o. client_or_job o (lowest (filter is_old_one (entries m.jobs)))) (none_first h.0)

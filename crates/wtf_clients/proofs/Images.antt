@@ -1,27 +1,9 @@
 -- The images that may be on the keeper: their numbers are pinned, and their maps stay.
-use Rattle.std.proofs.Common.{◌≡◌, ◌≢◌, ◌≤◌, ◌<◌, ℕ, ◌+◌, nat_eq, count_by, List, [], ◌∷◌, Option, None, Some, IsSome, cond, refl, sym, ap, subst, ◌⊎◌, inl}
-use Rattle.std.proofs.Common.{inr, ⊎_elim, arith}
-use Rattle.std.specs.Prelude.{IsTrue}
-use Rattle.std.specs.List.{Contains}
-use Rattle.std.proofs.lemmas.Bool.{eq-eqb}
-use Rattle.std.proofs.lemmas.List.Elements.{Contains-append_cases, Contains-push_cases}
-use Rattle.std.proofs.lemmas.List.Sums.{sum_by-cons}
-use Rattle.wtf_base.specs.declared.ids.InodeId.{InodeId}
-use Rattle.wtf_kv.specs.Stores.{is_pinned, times_pinned}
-use Rattle.wtf_kv.proofs.PinLaws.{any-count}
-use Rattle.wtf_values.specs.declared.key.Key.TheVariants.{Inode}
-use Rattle.wtf_values.specs.declared.value.Value.{Value}
-use Rattle.wtf_model.specs.Tree.{Tree}
-use Rattle.wtf_meta.specs.Contents.{Told}
-use Rattle.wtf_meta.specs.Maps.{Map, metadata_at}
-use Rattle.wtf_meta.specs.Trees.{Stands, Own}
-use Rattle.wtf_meta.proofs.Telling.{TellsOn}
-use Rattle.wtf_image.specs.Savable.{AreBefore}
-use Rattle.wtf_clients.specs.Views.{TablesView}
-use Rattle.wtf_clients.specs.Sounds.{all_kept, AreSound}
-use Rattle.wtf_clients.specs.Standing.{IsImageTree}
-use Rattle.wtf_clients.proofs.Pins.{number_cases}
-use Rattle.wtf_clients.proofs.Later.{Stands-later}
+use Rattle.wtf_clients.proofs.Common.{IsTrue, Contains, eq-eqb, Contains-append_cases, Contains-push_cases, sum_by-cons, InodeId, is_pinned, times_pinned}
+use Rattle.wtf_clients.proofs.Common.{any-count, Inode, Value, Tree, Told, Map, metadata_at, Stands, Own, TellsOn, AreBefore, TablesView, all_kept, AreSound}
+use Rattle.wtf_clients.proofs.Common.{IsImageTree, ◌≡◌, ◌≢◌, ◌≤◌, ◌<◌, ℕ, ◌+◌, nat_eq, count_by, List, [], ◌∷◌, Option, None, Some, IsSome, cond, refl, sym, ap}
+use Rattle.wtf_clients.proofs.Common.{subst, ◌⊎◌, inl, inr, ⊎_elim, arith}
+use Rattle.wtf_clients.proofs.{Pins.number_cases, Later.Stands-later}
 
 -- nothing is in an empty list
 pub none_in : (n : ℕ) → Contains [] n → ⊥
@@ -71,10 +53,7 @@ some_of_none (Some v) none some = cc
 
 -- the inodes that come are of a transaction before
 pub before_own : (tx n : ℕ) (w v : Map) → tx < n → Own tx w v → AreBefore n w → AreBefore n v
-before_own tx n w v lt own before i some = ⊎_elim
-    (λ none. by (number_cases i.tx.0 tx) none)
-    (λ was. before i was)
-    (nothing_or (w (Inode i)))
+before_own tx n w v lt own before i some = ⊎_elim (λ none. by (number_cases i.tx.0 tx) none) (λ was. before i was) (nothing_or (w (Inode i)))
   where
     by : (i.tx.0 ≡ tx) ⊎ (i.tx.0 ≢ tx) → w (Inode i) ≡ None → i.tx.0 < n
     by (inl same) none = omega (arith, same, lt)

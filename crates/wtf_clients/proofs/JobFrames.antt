@@ -1,33 +1,11 @@
 -- What a line of a job leaves to the clients and to the other jobs.
-use Rattle.std.proofs.Common.{◌≡◌, ◌≢◌, ◌≤◌, ◌<◌, ℕ, ◌+◌, nat_eq, List, ◌++◌, Option, None, Some, refl, sym, ap, ◌∙◌, subst, ⊎_elim, arith}
-use Rattle.std.specs.Prelude.{if◌then◌else◌}
-use Rattle.std.specs.List.{Contains}
-use Rattle.std.specs.FinMap.{get}
-use Rattle.std.specs.Option.{option_map}
-use Rattle.std.proofs.lemmas.Bool.{cases_Bool, eqb-true}
-use Rattle.wtf_kv.specs.Stores.{times_pinned}
-use Rattle.wtf_kv.proofs.PinLaws.{any-count, count-any}
-use Rattle.wtf_model.specs.declared.item.Item.{Item}
-use Rattle.wtf_model.specs.Tree.{root_alone}
-use Rattle.wtf_model.specs.Machines.{Machine}
-use Rattle.wtf_model.specs.Steps.{touch, touch_job}
-use Rattle.wtf_meta.specs.Contents.{Told}
-use Rattle.wtf_meta.specs.Trees.{Stands}
-use Rattle.wtf_meta.proofs.Telling.{TellsOn}
-use Rattle.wtf_replay.specs.Tried.{KeepsMaps}
-use Rattle.wtf_image.specs.Savable.{AreBefore}
-use Rattle.wtf_compact.specs.Jobs.{JobView}
-use Rattle.wtf_clients.specs.Views.{BesideView, TablesView, of_client, of_label, with_labels, metadata_now}
-use Rattle.wtf_clients.specs.Sounds.{all_owned, planned, all_kept, AreSound}
-use Rattle.wtf_clients.specs.Standing.{StandsForSlot, StandsForLabel, TablesStand}
-use Rattle.wtf_clients.specs.Touched.{SinceBase}
-use Rattle.wtf_compact.specs.Planned.{HasForm}
-use Rattle.wtf_clients.specs.JobTurns.{KeepsOthers}
-use Rattle.wtf_clients.proofs.Pins.{number_cases, base_pinned}
-use Rattle.wtf_clients.proofs.Images.{image_on}
-use Rattle.wtf_clients.proofs.SinceLaws.{TouchedSince}
-use Rattle.wtf_clients.proofs.Frames.{open_on, txn_on, slot_on, job_on, label_on}
-use Rattle.wtf_clients.proofs.JobPins.{job_upto}
+use Rattle.wtf_clients.proofs.Common.{if◌then◌else◌, Contains, get, option_map, cases_Bool, eqb-true, times_pinned, any-count, count-any, Item, root_alone}
+use Rattle.wtf_clients.proofs.Common.{Machine, touch, touch_job, Told, Stands, TellsOn, KeepsMaps, AreBefore, JobView, BesideView, TablesView, of_client}
+use Rattle.wtf_clients.proofs.Common.{of_label, with_labels, metadata_now, all_owned, planned, all_kept, AreSound, StandsForSlot, StandsForLabel, TablesStand}
+use Rattle.wtf_clients.proofs.Common.{SinceBase, HasForm, KeepsOthers, ◌≡◌, ◌≢◌, ◌≤◌, ◌<◌, ℕ, ◌+◌, nat_eq, List, ◌++◌, Option, None, Some, refl, sym, ap, ◌∙◌}
+use Rattle.wtf_clients.proofs.Common.{subst, ⊎_elim, arith}
+use Rattle.wtf_clients.proofs.{Pins.number_cases, Pins.base_pinned, Images.image_on, SinceLaws.TouchedSince, Frames.open_on, Frames.txn_on, Frames.slot_on}
+use Rattle.wtf_clients.proofs.{Frames.job_on, Frames.label_on, JobPins.job_upto}
 
 -- What a line changed of the tables: label j has now this job, or none; the number did not fall, and each map up to it stays.
 pub record JobTurned (old new : TablesView) (j : ℕ) (now : Option JobView) : Type 0 where
@@ -113,9 +91,7 @@ module _ (old new : TablesView) (j : ℕ) (now : Option JobView) (sound : AreSou
         → ((tx base : ℕ) (items : List Item) → base ≤ old.kv.number → Stands size told tx 0 (metadata_now old.kv) m.now → SinceBase old.kv tx base items
         → SinceBase new.kv tx base (items ++ more))
         → ((base : ℕ) (items : List Item) → base ≤ old.kv.number → TouchedSince old.kv base items → TouchedSince new.kv base (items ++ more))
-        → AreBefore new.next_tx (metadata_now new.kv)
-        → StandsForLabel size later new.kv now (get after.jobs j)
-        → TablesStand size later new after
+        → AreBefore new.next_tx (metadata_now new.kv) → StandsForLabel size later new.kv now (get after.jobs j) → TablesStand size later new after
     job_stands number tree may transactions others trees since touched before own =
         let now_tree : (tx : ℕ) → Stands size told tx 0 (metadata_now old.kv) m.now → Stands size later tx 0 (metadata_now new.kv) after.now = λ tx was.
         subst (λ t. Stands size later tx 0 (metadata_now new.kv) t) (sym tree) (trees tx was) in
@@ -126,8 +102,7 @@ module _ (old new : TablesView) (j : ℕ) (now : Option JobView) (sound : AreSou
               (subst (λ o. StandsForSlot size later new.kv after.now (of_client old.clients c) o) (sym (transactions c))
               (slot_on size told later old.kv new.kv m.now after.now more (of_client old.clients c) (get m.transactions c)
               (λ x t is txn. txn_on size told later old.kv new.kv m.now after.now x t more on (sound.each c x is).based turned.maps (now_tree x.tx txn.now)
-              (since x.tx x.at.base t.touched (sound.each c x is).based txn.now txn.since) txn)
-              (st.each c)));
+              (since x.tx x.at.base t.touched (sound.each c x is).based txn.now txn.since) txn) (st.each c)));
           jobs = λ l. ⊎_elim
               (λ same.
               subst (λ k. StandsForLabel size later new.kv (of_label new.beside.jobs k) (get after.jobs k)) (sym same)
@@ -137,9 +112,7 @@ module _ (old new : TablesView) (j : ℕ) (now : Option JobView) (sound : AreSou
               (subst (λ o. StandsForLabel size later new.kv (of_label old.beside.jobs l) o) (sym (others l ne))
               (label_on size told later old.kv new.kv more (of_label old.beside.jobs l) (get m.jobs l)
               (λ x t is job. job_on size told later old.kv new.kv x t more on (turned.maps x.base (job_upto old l x sound is))
-              (touched x.base t.touched (job_upto old l x sound is) job.touched) job)
-              (st.jobs l))))
-              (number_cases l j);
+              (touched x.base t.touched (job_upto old l x sound is) job.touched) job) (st.jobs l)))) (number_cases l j);
           later = λ tx le. now_tree tx (st.later tx (let up = job_more in omega (arith, up, le)));
           before = before;
           none = λ is. subst (λ l. Contains l root_alone) (sym may) (st.none (sym job_none ∙ is));

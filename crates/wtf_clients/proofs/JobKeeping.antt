@@ -1,18 +1,7 @@
 -- What a job is to put goes on keeping its region's bytes, as stores go on to tell theirs.
-use Rattle.std.proofs.Common.{◌≡◌, ℕ, true, List, [], Option, None, Some, refl, sym, ap, ◌∙◌}
-use Rattle.wtf_overlay.specs.Meaning.{meaning}
-use Rattle.wtf_overlay.specs.declared.part.Entry.{Entry}
-use Rattle.wtf_values.specs.declared.region.RegionValue.{RegionValue}
-use Rattle.wtf_values.specs.declared.region.Spill.{Spill}
-use Rattle.wtf_meta.specs.Bytes.{BaseBytes, MaybeBytes}
-use Rattle.wtf_meta.specs.Contents.{Told, is_told, is_listed, lists_in}
-use Rattle.wtf_meta.specs.Files.{region_origin}
-use Rattle.wtf_meta.specs.Lists.{TellLists, base_facts}
-use Rattle.wtf_meta.proofs.ListTests.{has_list}
-use Rattle.wtf_meta.proofs.Named.{region_origin_bytes}
-use Rattle.wtf_meta.proofs.Telling.{TellsOn, meaning_later, told_byte, is_told-later, is_listed-later, told_lists, region_later}
-use Rattle.wtf_meta.proofs.Weaker.{maybe_stays}
-use Rattle.wtf_compact.specs.Planned.{KeepsRegion}
+use Rattle.wtf_clients.proofs.Common.{meaning, Entry, RegionValue, Spill, BaseBytes, MaybeBytes, Told, is_told, is_listed, lists_in, region_origin, TellLists}
+use Rattle.wtf_clients.proofs.Common.{base_facts, has_list, region_origin_bytes, TellsOn, meaning_later, told_byte, is_told-later, is_listed-later, told_lists}
+use Rattle.wtf_clients.proofs.Common.{region_later, maybe_stays, KeepsRegion, ◌≡◌, ℕ, true, List, [], Option, None, Some, refl, sym, ap, ◌∙◌}
 
 module _ (b : ℕ) (told : Told) where
   -- the list that the slice of a base decodes to

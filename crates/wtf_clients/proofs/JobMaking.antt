@@ -1,51 +1,13 @@
 -- What the lines of jobs make of the tables, by what planning, putting and dropping promise.
-use Rattle.std.proofs.Common.{◌≡◌, ℕ, Bool, true, List, [], Option, None, Some, is_some, set, refl, sym, ap, ◌∙◌, subst}
-use Rattle.wtf_base.specs.declared.fault.Fault.{Fault}
-use Rattle.wtf_base.specs.declared.settings.Settings.{Settings}
-use Rattle.wtf_base.specs.declared.slice.Slice.{Slice}
-use Rattle.wtf_dev.specs.Store.{Range, StoreKind}
-use Rattle.wtf_dev.specs.Sums.{TellsAll}
-use Rattle.wtf_kv.specs.Stores.{IsPinnedOnceMore}
-use Rattle.wtf_overlay.specs.Origin.{Place}
-use Rattle.wtf_values.specs.declared.key.Key.TheVariants.{Region}
-use Rattle.wtf_values.specs.declared.region.RegionValue.{RegionValue}
-use Rattle.wtf_model.specs.declared.answer.Answer.{Answer}
-use Rattle.wtf_model.specs.declared.answer.Answer.TheVariants as answer
-use Rattle.wtf_model.specs.declared.answer.Word.{Word}
-use Rattle.wtf_model.specs.declared.answer.Word.TheVariants.{NoJob, JobInUse}
-use Rattle.wtf_model.specs.declared.op.JobKind.{JobKind}
-use Rattle.wtf_model.specs.Jobs.{MayFailPlan}
-use Rattle.wtf_model.specs.Tree.{Tree}
-use Rattle.wtf_meta.specs.Bytes.{MapBytes, any_slice}
-use Rattle.wtf_meta.specs.Contents.{Told, is_told, is_listed, lists_in}
-use Rattle.wtf_meta.specs.Lists.{TellLists, region_facts}
-use Rattle.wtf_meta.specs.Maps.{Map}
-use Rattle.wtf_meta.specs.Trees.{Stands}
-use Rattle.wtf_meta.proofs.Named.{region_of_bytes}
-use Rattle.wtf_meta.proofs.Weaker.{maybe_stays}
-use Rattle.wtf_region.specs.declared.dev.Dev.{Dev}
-use Rattle.wtf_region.specs.Apart.{are_apart}
-use Rattle.wtf_ring.specs.Points.{IsRing}
-use Rattle.wtf_region.specs.Devs.{GoesOn, stores, between, told_in, RemembersTrue}
-use Rattle.wtf_replay.specs.Causes.{fault_answer}
-use Rattle.wtf_replay.specs.Insides.{lists_have}
-use Rattle.wtf_compact.specs.declared.target.Target.{Target}
-use Rattle.wtf_compact.specs.Jobs.{JobView, IsJobOf, target_region}
-use Rattle.wtf_compact.specs.Planned.{IsPlanned, KeepsRegion, TellsRegion}
-use Rattle.wtf_clients.specs.Views.{Jobs, BesideView, TablesView, of_label, was_job, with_jobs, with_labels, metadata_now}
-use Rattle.wtf_clients.specs.Sounds.{SetsJob}
-use Rattle.wtf_clients.specs.Turns.{AreTrue, ReadsLists}
-use Rattle.wtf_clients.specs.Planning.{refusal_of, plan_answer}
-use Rattle.wtf_clients.specs.JobTurns.{KeepsOthers, IsMadeOf, Plans, PlanTurn, PlanFails, FreePlan, plan_due, Puts, DropsJob, PutTurn, DropTurn}
-use Rattle.wtf_clients.proofs.JobPins.{set_back, set_none}
-use Rattle.wtf_clients.specs.Asked.{lent_by}
-use Rattle.wtf_clients.specs.Seeing.{Seeing, seeing}
-use Rattle.wtf_clients.proofs.Known.{lent_to, knows}
-use Rattle.wtf_clients.proofs.Lives.{now_bytes}
-use Rattle.wtf_clients.proofs.PlanLaws.{plan_is_due}
-use Rattle.wtf_clients.proofs.Making.{at_none, at_some, at_there}
-use Rattle.wtf_clients.proofs.Staying.{IsFault, fault_is}
-use Rattle.std.proofs.Common.{arith, false, ◌<◌, ◌∷◌, ◌++◌}
+use Rattle.wtf_clients.proofs.Common.{Fault, Answer, JobKind, is_told, between, told_in, JobView, IsJobOf, was_job, SetsJob, AreTrue, PutTurn, lent_by, is_some}
+use Rattle.wtf_clients.proofs.Common.{Settings, StoreKind, any_slice, is_listed, TellLists, are_apart, IsPlanned, TablesView, with_jobs, ReadsLists, refusal_of}
+use Rattle.wtf_clients.proofs.Common.{Slice, Range, Place, NoJob, Stands, IsRing, GoesOn, stores, Target, Plans, Seeing, seeing, Option, subst, arith, false}
+use Rattle.wtf_clients.proofs.Common.{TellsAll, JobInUse, MapBytes, lists_in, of_label, IsMadeOf, PlanTurn, PlanFails, FreePlan, plan_due, DropsJob, DropTurn}
+use Rattle.wtf_clients.proofs.Common.{IsPinnedOnceMore, RegionValue, region_facts, region_of_bytes, RemembersTrue, fault_answer, target_region, metadata_now, ℕ}
+use Rattle.wtf_clients.proofs.Common.{Region, MayFailPlan, maybe_stays, lists_have, KeepsRegion, TellsRegion, BesideView, with_labels, plan_answer, KeepsOthers}
+use Rattle.wtf_clients.proofs.Common.{Word, Tree, Told, Map, Dev, Jobs, Puts, ◌≡◌, Bool, true, List, [], None, Some, set, refl, sym, ap, ◌∙◌, ◌<◌, ◌∷◌, ◌++◌}
+use Rattle.wtf_clients.proofs.{JobPins.set_back, JobPins.set_none, Known.lent_to, Known.knows, Lives.now_bytes, PlanLaws.plan_is_due, Making.at_none}
+use Rattle.wtf_clients.proofs.{Making.at_some, Making.at_there, Staying.IsFault, Staying.fault_is}
 
 -- what stands beside, but for the jobs, is what it was
 any_jobs : (old new : BesideView) (jobs : Jobs) → new ≡ with_jobs old jobs → new ≡ with_labels old new.jobs new.scan_jobs
@@ -80,14 +42,7 @@ keeps_others old new j now jobs sets is clients next = record {
 -- what was planned, but for the stores
 abbrev pub made_of : {S : Type 0} (kind : StoreKind S) (old new : Dev S) (t : Target) (now value : Option RegionValue) → IsPlanned kind old new t now value
     → IsMadeOf t now value
-made_of kind old new t now value h = record {
-  under = h.under;
-  stored = h.stored;
-  same = h.same;
-  there = h.there;
-  short = h.short;
-  spilled = h.spilled;
-}
+made_of kind old new t now value h = record { under = h.under; stored = h.stored; same = h.same; there = h.there; short = h.short; spilled = h.spilled }
 
 module _ {S : Type 0} (kind : StoreKind S) (old new : Dev S) (t : Target) (now value : Option RegionValue) (goes : GoesOn kind old new [])
     (h : IsPlanned kind old new t now value) where
@@ -101,9 +56,8 @@ module _ {S : Type 0} (kind : StoreKind S) (old new : Dev S) (t : Target) (now v
 
 -- where the stores tell the map now, they tell each region of it
 tells_region : {S : Type 0} (kind : StoreKind S) (dev : Dev S) (tables : TablesView) (t : Target) → TellsAll kind (stores dev)
-    → (kept : AreTrue dev.settings.region (told_in kind dev) (RemembersTrue kind dev) tables)
-    → MapBytes (is_told (told_in kind dev)) (is_listed dev.settings.region (told_in kind dev)) (metadata_now tables.kv)
-    → TellsRegion kind dev kept.ranges (target_region (metadata_now tables.kv) t)
+    → (kept : AreTrue dev.settings.region (told_in kind dev) (RemembersTrue kind dev) tables) → MapBytes (is_told (told_in kind dev))
+    (is_listed dev.settings.region (told_in kind dev)) (metadata_now tables.kv) → TellsRegion kind dev kept.ranges (target_region (metadata_now tables.kv) t)
 tells_region kind dev tables t all kept map =
     let told : Told = told_in kind dev in
     let size : ℕ = dev.settings.region in
@@ -134,22 +88,22 @@ module _ {S : Type 0} (kind : StoreKind S) (dev new : Dev S) (ring : IsRing dev.
       → plan_due z.size t p r ≡ plan_answer o
   due o is tx k t st = plan_is_due z.size z.told tx k (metadata_now old.kv) t p r some_region st ∙ ap plan_answer is
 
-  pub plan_used : is_some (of_label old.beside.jobs j) ≡ true → after ≡ old → Turn (answer.Refused JobInUse)
+  pub plan_used : is_some (of_label old.beside.jobs j) ≡ true → after ≡ old → Turn (Answer.Refused JobInUse)
   plan_used there same = at_there (of_label old.beside.jobs j) _ _ there (λ x. record { answer = refl; same = same })
 
   pub plan_stopped : (w : Word) → of_label old.beside.jobs j ≡ None → after ≡ old → refusal_of z.size (metadata_now old.kv) p r ≡ Some w
-      → Turn (answer.Refused w)
+      → Turn (Answer.Refused w)
   plan_stopped w none same word = at_none (of_label old.beside.jobs j) _ _ none (record { same = same; word = word; due = due (Some w) word })
 
   free_fails : (a : Answer) → IsFault a → PlanFails z old after jk p r a → FreePlan z old after j jk p r a
-  free_fails (answer.FaultRead k) fault h = h
-  free_fails answer.FaultWrite fault h = h
-  free_fails (answer.FaultPunch k) fault h = h
-  free_fails (answer.Damaged k) fault h = h
+  free_fails (Answer.FaultRead k) fault h = h
+  free_fails Answer.FaultWrite fault h = h
+  free_fails (Answer.FaultPunch k) fault h = h
+  free_fails (Answer.Damaged k) fault h = h
   free_fails a fault h = absurd fault
 
   pub plan_failed : (why : Fault) (a : Answer) → fault_answer why ≡ Some a → of_label old.beside.jobs j ≡ None → after ≡ old
-      → refusal_of z.size (metadata_now old.kv) p r ≡ None → MayFailPlan z.servers jk answer.Planned a → Turn a
+      → refusal_of z.size (metadata_now old.kv) p r ≡ None → MayFailPlan z.servers jk Answer.Planned a → Turn a
   plan_failed why a is none same free may =
       at_none (of_label old.beside.jobs j) _ _ none (free_fails a (fault_is why a is) (record {
         why = why;
@@ -177,8 +131,7 @@ module _ {S : Type 0} (kind : StoreKind S) (dev new : Dev S) (ring : IsRing dev.
 
     pub plan_made : GoesOn kind dev new [] → refusal_of z.size (metadata_now old.kv) p r ≡ None
         → ((ranges : List (ℕ × Range)) → TellsRegion kind dev ranges (target_region (metadata_now old.kv) x.target)
-        → KeepsRegion new.settings.region (told_in kind new) (target_region (metadata_now old.kv) x.target) x.value)
-        → Turn answer.Planned
+        → KeepsRegion new.settings.region (told_in kind new) (target_region (metadata_now old.kv) x.target) x.value) → Turn Answer.Planned
     plan_made goes free region = at_none (of_label old.beside.jobs j) _ _ none (record {
       job = x;
       plans = plans;
@@ -195,13 +148,13 @@ module _ {S : Type 0} (kind : StoreKind S) (dev new : Dev S) (ring : IsRing dev.
 
 -- ---- a put, and a drop
 module _ (old new : TablesView) (j : ℕ) where
-  pub none_put : of_label old.beside.jobs j ≡ None → new ≡ old → PutTurn old new j (answer.Refused NoJob)
+  pub none_put : of_label old.beside.jobs j ≡ None → new ≡ old → PutTurn old new j (Answer.Refused NoJob)
   none_put none same = at_none (of_label old.beside.jobs j) _ _ none (record { answer = refl; same = same })
 
   pub put_turn : (x : JobView) (a : Answer) → of_label old.beside.jobs j ≡ Some x → Puts old new j x a → PutTurn old new j a
   put_turn x a there did = at_some (of_label old.beside.jobs j) x _ _ there did
 
-  pub none_dropped : of_label old.beside.jobs j ≡ None → new ≡ old → DropTurn old new j (answer.Refused NoJob)
+  pub none_dropped : of_label old.beside.jobs j ≡ None → new ≡ old → DropTurn old new j (Answer.Refused NoJob)
   none_dropped none same = at_none (of_label old.beside.jobs j) _ _ none (record { answer = refl; same = same })
 
   pub drop_turn : (x : JobView) (a : Answer) → of_label old.beside.jobs j ≡ Some x → DropsJob old new j x a → DropTurn old new j a

@@ -1,18 +1,7 @@
 -- The jobs by label: one is set or gone, and the pins of their bases.
-use Rattle.std.proofs.Common.{◌≡◌, ◌≤◌, ◌<◌, ℕ, zero, suc, [], ◌∷◌, length, get_or, set, Option, None, Some, refl, sym, ap, ◌∙◌, arith}
-use Rattle.std.specs.Prelude.{IsTrue, if◌then◌else◌}
-use Rattle.std.proofs.lemmas.Bool.{eq-eqb}
-use Rattle.std.proofs.lemmas.List.{set-set, set-get_or, get_or_past}
-use Rattle.std.proofs.lemmas.List.Sums.{sum_by-cons, sum_by-set}
-use Rattle.wtf_kv.specs.Stores.{is_pinned}
-use Rattle.wtf_kv.proofs.PinLaws.{any-count}
-use Rattle.wtf_model.specs.declared.limits.TheConstants.{MAX_JOBS}
-use Rattle.wtf_meta.specs.Sessions.{at_label}
-use Rattle.wtf_meta.proofs.Labels.{at_label_same, at_label_other}
-use Rattle.wtf_meta.proofs.Nothing.{none_at}
-use Rattle.wtf_compact.specs.Jobs.{JobView}
-use Rattle.wtf_clients.specs.Views.{Jobs, no_jobs, of_label, TablesView}
-use Rattle.wtf_clients.specs.Sounds.{planned, all_planned, AreSound, SetsJob}
+use Rattle.wtf_clients.proofs.Common.{IsTrue, eq-eqb, Jobs, ◌≡◌, ◌≤◌, ◌<◌, ℕ, zero, suc, [], ◌∷◌, length, get_or, set, Option, None, Some, refl, sym, ap, ◌∙◌}
+use Rattle.wtf_clients.proofs.Common.{if◌then◌else◌, set-get_or, get_or_past, sum_by-cons, sum_by-set, at_label_same, at_label_other, TablesView, all_planned}
+use Rattle.wtf_clients.proofs.Common.{set-set, is_pinned, any-count, MAX_JOBS, at_label, none_at, JobView, no_jobs, of_label, planned, AreSound, SetsJob, arith}
 
 -- what stands at a label
 at_label_get : (jobs : Jobs) (j : ℕ) → at_label jobs j ≡ get_or jobs j None
@@ -37,8 +26,7 @@ sets_job jobs j now below = record {
 
 -- one that was taken is given back
 pub set_back : (jobs : Jobs) (j : ℕ) (x : JobView) → of_label jobs j ≡ Some x → set (set jobs j None) j (Some x) ≡ jobs
-set_back jobs j x there =
-    set-set jobs j None (Some x) ∙ ap (set jobs j) (sym there ∙ at_label_get jobs j) ∙ set-get_or jobs j None
+set_back jobs j x there = set-set jobs j None (Some x) ∙ ap (set jobs j) (sym there ∙ at_label_get jobs j) ∙ set-get_or jobs j None
 
 -- where there is none, taking one changes nothing
 pub set_none : (jobs : Jobs) (j : ℕ) → of_label jobs j ≡ None → set jobs j None ≡ jobs

@@ -1,62 +1,18 @@
 -- What a plan made of the bytes that the tables name, and of the stores.
-use Rattle.std.proofs.Common.{◌≡◌, ℕ, ◌*◌, Bool, true, false, nat_lt, List, [], Option, None, Some, refl, sym, ap, ◌∙◌, subst, inl, inr}
-use Rattle.std.proofs.Common.{⊎_elim, arith}
-use Rattle.std.specs.Prelude.{⊤}
-use Rattle.std.proofs.lemmas.Bool.{cases_Bool, ltb-true, ltb-false, true≢false}
-use Rattle.wtf_base.specs.declared.fault.Fault.{Fault}
-use Rattle.wtf_base.specs.declared.fault.Fault.TheVariants as fault
-use Rattle.wtf_base.specs.declared.ids.InodeId.{InodeId}
-use Rattle.wtf_base.specs.declared.settings.Settings.{Settings}
-use Rattle.wtf_base.specs.declared.slice.Slice.{Slice}
-use Rattle.wtf_dev.specs.Store.{StoreKind, KindLaws}
-use Rattle.wtf_overlay.specs.Origin.{Place}
-use Rattle.wtf_overlay.specs.Spilled.{encoded}
-use Rattle.wtf_ring.specs.Points.{PlaceView, IsRing}
-use Rattle.wtf_replica.specs.Copies.{IsStored}
-use Rattle.wtf_replica.specs.Downs.{is_down}
-use Rattle.wtf_replica.specs.Faults.{AreTooFew}
-use Rattle.wtf_replica.specs.Outs.{IsOut}
-use Rattle.wtf_replica.specs.Spans.{Span, span}
-use Rattle.wtf_replica.proofs.Spans.{out_since, each_kept}
-use Rattle.wtf_values.specs.declared.region.RegionValue.{RegionValue}
-use Rattle.wtf_model.specs.declared.answer.Answer.{Answer}
-use Rattle.wtf_model.specs.declared.answer.Answer.TheVariants as answer
-use Rattle.wtf_model.specs.declared.event.Event.TheVariants as event
-use Rattle.wtf_model.specs.declared.op.JobKind.{JobKind}
-use Rattle.wtf_model.specs.declared.op.JobKind.TheVariants.{Compact, Spill}
-use Rattle.wtf_model.specs.Jobs.{MayFailPlan}
-use Rattle.wtf_meta.specs.Bytes.{MaybeBytes, ListSlices, MapBytes, any_slice}
-use Rattle.wtf_meta.specs.Files.{end_of}
-use Rattle.wtf_meta.specs.Lists.{ListFact, region_facts}
-use Rattle.wtf_meta.specs.Maps.{Map}
-use Rattle.wtf_meta.specs.Trees.{LeadsTo}
-use Rattle.wtf_meta.proofs.Named.{region_of_bytes}
-use Rattle.wtf_meta.proofs.Standing.{one_leads}
-use Rattle.wtf_values.specs.declared.key.Key.TheVariants.{Path, Region}
-use Rattle.wtf_region.specs.declared.dev.Dev.{Dev}
-use Rattle.wtf_region.specs.Devs.{IsSoundDev, GoesOn, stores, inside_of, between, place_in}
-use Rattle.wtf_region.specs.Inside.{is_inside}
-use Rattle.wtf_region.specs.Showing.{OnlyRead}
-use Rattle.wtf_steps.proofs.FaultWays.{IsOfServers, region_fault_known}
-use Rattle.wtf_replay.specs.Causes.{fault_answer}
-use Rattle.wtf_compact.specs.declared.target.Target.{Target}
-use Rattle.wtf_compact.specs.Jobs.{JobView, job_target, region_in_map, target_region}
-use Rattle.wtf_compact.specs.Planned.{IsPlanned, IsUnstoredShort, SparesStores, StoresList, LacksServers, IsPlanFault, spills}
-use Rattle.wtf_compact.proofs.Sparing.{place_same}
-use Rattle.wtf_clients.specs.Views.{TablesView, of_label, metadata_now}
-use Rattle.wtf_clients.specs.Sounds.{AreSound}
-use Rattle.wtf_clients.specs.Named.{TablesBytes, any_byte, no_slice, has_copies}
-use Rattle.wtf_clients.specs.Asked.{Asked, line_asked, lent_by, IsPlaced}
-use Rattle.wtf_clients.specs.Outcomes.{Load, no_load, load_of_job, AddsThisList, AddsBytes, IsUnspilled, HasToStore, HasCause}
-use Rattle.wtf_clients.specs.Serves.{AreBased, AreFull, ServesLine}
-use Rattle.wtf_clients.specs.Leaving.{GrowsOnly}
-use Rattle.wtf_clients.specs.JobTurns.{Plans}
-use Rattle.wtf_clients.proofs.Caused.{plain_caused, plain_failed, has_failed, none_placed, fault_placed, none_added}
-use Rattle.wtf_clients.proofs.JobTurning.{plan_bytes}
-use Rattle.wtf_clients.proofs.Lacking.{memory_none, no_lists, region_caused}
-use Rattle.wtf_clients.proofs.Lives.{now_bytes}
-use Rattle.wtf_clients.proofs.Known.{lent_to}
-use Rattle.wtf_clients.proofs.Serving.{later}
+use Rattle.wtf_clients.proofs.Common.{⊤, cases_Bool, ltb-true, ltb-false, true≢false, Fault, InodeId, Settings, Slice, StoreKind, KindLaws, Place, encoded}
+use Rattle.wtf_clients.proofs.Common.{PlaceView, IsRing, IsStored, is_down, AreTooFew, IsOut, Span, span, out_since, each_kept, RegionValue, Answer, Event}
+use Rattle.wtf_clients.proofs.Common.{JobKind, Compact, MayFailPlan, MaybeBytes, ListSlices, MapBytes, any_slice, end_of, ListFact, region_facts, Map, LeadsTo}
+use Rattle.wtf_clients.proofs.Common.{region_of_bytes, one_leads, Path, Region, Dev, IsSoundDev, GoesOn, stores, inside_of, between, is_inside, OnlyRead}
+use Rattle.wtf_clients.proofs.Common.{IsOfServers, region_fault_known, fault_answer, Target, JobView, job_target, region_in_map, target_region, IsPlanned}
+use Rattle.wtf_clients.proofs.Common.{IsUnstoredShort, SparesStores, StoresList, LacksServers, IsPlanFault, spills, place_same, TablesView, of_label}
+use Rattle.wtf_clients.proofs.Common.{metadata_now, AreSound, TablesBytes, any_byte, no_slice, has_copies, Asked, line_asked, lent_by, IsPlaced, Load, no_load}
+use Rattle.wtf_clients.proofs.Common.{load_of_job, AddsThisList, AddsBytes, IsUnspilled, HasToStore, HasCause, AreBased, AreFull, ServesLine, GrowsOnly, Plans}
+use Rattle.wtf_clients.proofs.Common.{◌≡◌, ℕ, ◌*◌, Bool, true, false, nat_lt, List, [], Option, None, Some, refl, sym, ap, ◌∙◌, subst, inl, inr, ⊎_elim, arith}
+use Rattle.wtf_model.specs.declared.op.JobKind.TheVariants.{Spill}
+use Rattle.wtf_region.specs.Devs.{place_in}
+use Rattle.wtf_clients.proofs.{Lives.AreInside, Caused.plain_caused, Caused.plain_failed, Caused.has_failed, Caused.none_placed, Caused.fault_placed}
+use Rattle.wtf_clients.proofs.{Caused.none_added, JobTurning.plan_bytes, Lacking.memory_none, Lacking.no_lists, Lacking.region_caused, Lives.now_bytes}
+use Rattle.wtf_clients.proofs.{Known.lent_to, Serving.later}
 
 -- what a map has of a region
 pub region_bytes : (P : List Place → Bool) (Q : Slice → Bool) (w : Map) (t : Target) → MapBytes P Q w → MaybeBytes P Q (target_region w t)
@@ -70,11 +26,11 @@ short_none stored (Some x) h = h.0
 -- what is the cause of a fault where nothing is to be stored is one of any line
 pub cause_more : {S : Type 0} (kind : StoreKind S) (t : Span S) (settings : Settings) (based : (Slice → Bool) → Type 0) (full : Type 0) (load : Load)
     (a : Answer) → HasCause kind t settings ⊥ based full no_load a → HasCause kind t settings ⊥ based full load a
-cause_more kind t settings based full load (answer.FaultRead k) h = h
-cause_more kind t settings based full load answer.FaultWrite h = absurd (let some = h.0 in omega (arith, some))
-cause_more kind t settings based full load (answer.FaultPunch k) h = absurd h
-cause_more kind t settings based full load answer.FaultSave h = h
-cause_more kind t settings based full load (answer.Damaged k) h = h
+cause_more kind t settings based full load (Answer.FaultRead k) h = h
+cause_more kind t settings based full load Answer.FaultWrite h = absurd (let some = h.0 in omega (arith, some))
+cause_more kind t settings based full load (Answer.FaultPunch k) h = absurd h
+cause_more kind t settings based full load Answer.FaultSave h = h
+cause_more kind t settings based full load (Answer.Damaged k) h = h
 cause_more kind t settings based full load a h = tt
 
 module _ {S : Type 0} {kind : StoreKind S} (laws : KindLaws kind) (old mid new : Dev S) (goes : GoesOn kind old mid []) where
@@ -86,8 +42,7 @@ module _ {S : Type 0} {kind : StoreKind S} (laws : KindLaws kind) (old mid new :
     out = λ k lt. ⊎_elim
         (λ left. inl left)
         (λ out. inr (out_since kind (is_down old.replicas.now) (stores old) (stores mid) (stores new) goes.each.same_length (each_kept laws goes.each) k
-        (subst (λ r. IsOut kind (span (is_down r.now) (stores mid) (stores new)) k) goes.replicas out)))
-        (h.out k lt);
+        (subst (λ r. IsOut kind (span (is_down r.now) (stores mid) (stores new)) k) goes.replicas out))) (h.out k lt);
   }
 
 -- one list was stored, behind reads
@@ -107,33 +62,31 @@ list_added {kind = kind} old new t stored P goes_to w = record {
 
 -- ---- a plan, of the file to which the path leads
 module _ {S : Type 0} {kind : StoreKind S} (laws : KindLaws kind) (old new : Dev S) (goes : GoesOn kind old new []) (lent : IsSoundDev kind old)
-    (before : TablesView) (sound : AreSound before)
-    (inside : TablesBytes (is_inside kind (stores old) old.settings) any_slice before)
+    (before : TablesView) (sound : AreSound before) (inside : AreInside kind old before)
     (ring : IsRing old.settings.servers old.ring.now.points) (j : ℕ) (jk : JobKind) (p : List ℕ) (r : ℕ) where
   abbrev now : Map
   now = metadata_now before.kv
 
   abbrev asked : Asked
-  asked = line_asked kind (between old new) (lent_by old new) before (event.Plan j jk p r)
+  asked = line_asked kind (between old new) (lent_by old new) before (Event.Plan j jk p r)
 
   module _ (after : TablesView) (x : JobView) (none : of_label before.beside.jobs j ≡ None) (plans : Plans before after j jk p r x)
       (did : IsPlanned kind old new x.target (target_region now x.target) x.value) (own : MaybeBytes (inside_of kind new) any_slice x.value) where
     -- the value names no base, where the region has none and no list was spilled
-    value_free : (k : JobKind) → x.target.kind ≡ k → IsUnspilled (load_of_job k) answer.Planned → (P : List Place → Bool)
+    value_free : (k : JobKind) → x.target.kind ≡ k → IsUnspilled (load_of_job k) Answer.Planned → (P : List Place → Bool)
         → MaybeBytes P no_slice (target_region now x.target) → MaybeBytes P no_slice x.value
     value_free Compact is free P h =
         let none_stored : did.stored ≡ [] = short_none did.stored x.value (did.short (ap (λ k. spills k (end_of (target_region now x.target))) is)) in
-        did.names.is_in P no_slice h (no_lists P (region_facts (target_region now x.target) did.under))
-        (subst (ListSlices P no_slice) (sym none_stored) tt)
+        did.names.is_in P no_slice h (no_lists P (region_facts (target_region now x.target) did.under)) (subst (ListSlices P no_slice) (sym none_stored) tt)
     value_free Spill is free P h = absurd (true≢false free)
 
-    free_bytes : IsUnspilled (load_of_job jk) answer.Planned → (P : List Place → Bool) → TablesBytes P no_slice before → TablesBytes P no_slice after
+    free_bytes : IsUnspilled (load_of_job jk) Answer.Planned → (P : List Place → Bool) → TablesBytes P no_slice before → TablesBytes P no_slice after
     free_bytes free P h =
         plan_bytes P no_slice before after j sound jk p r x none plans h
         (value_free jk plans.job.kind_is free P (region_bytes P no_slice now x.target (now_bytes P no_slice before h)))
 
-    added : (k : JobKind) → jk ≡ k → AddsBytes kind (between old new) old.settings (load_of_job k) answer.Planned
-    added Compact is = none_added kind (between old new) old.settings answer.Planned
+    added : (k : JobKind) → jk ≡ k → AddsBytes kind (between old new) old.settings (load_of_job k) Answer.Planned
+    added Compact is = none_added kind (between old new) old.settings Answer.Planned
         (did.unwritten (ap (λ k. spills k (end_of (target_region now x.target))) (plans.job.kind_is ∙ is))).lengths
     added Spill is = ⊎_elim
         (λ some. inr ((did.written some).own, list_added old new x.target did.stored (λ place. ⊤) tt (did.written some)))
@@ -142,26 +95,18 @@ module _ {S : Type 0} {kind : StoreKind S} (laws : KindLaws kind) (old new : Dev
 
     -- the list goes where the region's first byte does
     goes_there : asked.goes_to (place_in old x.target.inode (x.target.region * old.settings.region))
-    goes_there = (
-      old,
-      new,
-      lent_to old new ring,
-      (x.target.inode, plans.job.leads, ap (λ n. place_in old x.target.inode (n * old.settings.region)) plans.job.region),
-    )
+    goes_there =
+        (old, new, lent_to old new ring, (x.target.inode, plans.job.leads, ap (λ n. place_in old x.target.inode (n * old.settings.region)) plans.job.region))
 
-    placed : (k : JobKind) → jk ≡ k → IsPlaced kind (between old new) old.settings (record asked { given = load_of_job k }) answer.Planned
-    placed Compact is = none_placed kind (between old new) old.settings (record asked { given = no_load }) answer.Planned refl
+    placed : (k : JobKind) → jk ≡ k → IsPlaced kind (between old new) old.settings (record asked { given = load_of_job k }) Answer.Planned
+    placed Compact is = none_placed kind (between old new) old.settings (record asked { given = no_load }) Answer.Planned refl
     placed Spill is = λ same. ⊎_elim
         (λ some. inr (
           λ empty. none_empty empty.0 empty.1 empty.2 (plans.job.kind_is ∙ is) some,
           ((did.written some).own, list_added old new x.target did.stored asked.goes_to goes_there (did.written some)),
         ))
         (λ empty. inl (
-          (
-            x.target.inode,
-            plans.job.leads,
-            ap (λ n. end_of (region_in_map now x.target.inode n)) (sym plans.job.region) ∙ ends (plans.job.kind_is ∙ is) empty,
-          ),
+          (x.target.inode, plans.job.leads, ap (λ n. end_of (region_in_map now x.target.inode n)) (sym plans.job.region) ∙ ends (plans.job.kind_is ∙ is) empty),
           (did.unwritten empty).lengths,
         ))
         (cases_Bool (spills x.target.kind (end_of (target_region now x.target))))
@@ -184,7 +129,7 @@ module _ {S : Type 0} {kind : StoreKind S} (laws : KindLaws kind) (old new : Dev
             let more = ltb-true 0 (end_of (target_region now x.target)) there in
             omega (arith, more, end, zero)
 
-    pub plan_serves : ServesLine kind (between old new) (lent_by old new) before after (event.Plan j jk p r) answer.Planned
+    pub plan_serves : ServesLine kind (between old new) (lent_by old new) before after (Event.Plan j jk p r) Answer.Planned
     plan_serves = record {
       inside = plan_bytes (is_inside kind (stores new) old.settings) any_slice before after j sound jk p r x none plans
           (later laws old new goes lent before sound inside)
@@ -192,9 +137,9 @@ module _ {S : Type 0} {kind : StoreKind S} (laws : KindLaws kind) (old new : Dev
       bare = λ free h. free_bytes free any_byte h;
       full = λ free h. free_bytes free (has_copies old.settings.replicas) h;
       adds = added jk refl;
-      caused = plain_caused kind (between old new) old.settings ⊥ (AreBased before) (AreFull old.settings before) (load_of_job jk) answer.Planned tt;
+      caused = plain_caused kind (between old new) old.settings ⊥ (AreBased before) (AreFull old.settings before) (load_of_job jk) Answer.Planned tt;
       placed = placed jk refl;
-      failed = plain_failed asked.fails answer.Planned tt;
+      failed = plain_failed asked.fails Answer.Planned tt;
     }
 
   -- ---- one that failed, of the file to which the path leads
@@ -205,30 +150,30 @@ module _ {S : Type 0} {kind : StoreKind S} (laws : KindLaws kind) (old new : Dev
 
     -- the machine allows it, where a plan is due
     write_may : (w : Fault) → fault_answer w ≡ Some a → LacksServers kind old new (job_target i r jk) (region_in_map now i r) w
-        → MayFailPlan old.settings.servers jk answer.Planned a
-    write_may fault.Write same lacks = by jk lacks.spilled
+        → MayFailPlan old.settings.servers jk Answer.Planned a
+    write_may Fault.Write same lacks = by jk lacks.spilled
       where
-        by : (k : JobKind) → spills k (end_of (region_in_map now i r)) ≡ true → MayFailPlan old.settings.servers k answer.Planned a
+        by : (k : JobKind) → spills k (end_of (region_in_map now i r)) ≡ true → MayFailPlan old.settings.servers k Answer.Planned a
         by Compact bad = absurd (true≢false (sym bad))
-        by Spill good = subst (λ (b : Answer). MayFailPlan old.settings.servers Spill answer.Planned b) (let e : answer.FaultWrite ≡ a = cc in e) (inr tt)
-    write_may (fault.Read k) same lacks = absurd lacks.out
-    write_may (fault.Punch k) same lacks = absurd lacks.out
-    write_may (fault.Damaged k) same lacks = absurd lacks.out
-    write_may fault.Memory same lacks = absurd (memory_none fault.Memory a same refl)
+        by Spill good = subst (λ (b : Answer). MayFailPlan old.settings.servers Spill Answer.Planned b) (let e : Answer.FaultWrite ≡ a = cc in e) (inr tt)
+    write_may (Fault.Read k) same lacks = absurd lacks.out
+    write_may (Fault.Punch k) same lacks = absurd lacks.out
+    write_may (Fault.Damaged k) same lacks = absurd lacks.out
+    write_may Fault.Memory same lacks = absurd (memory_none Fault.Memory a same refl)
 
-    read_may : (w : Fault) → fault_answer w ≡ Some a → IsOfServers old.settings.servers w → MayFailPlan old.settings.servers jk answer.Planned a
-    read_may (fault.Read k) same known =
-        subst (λ (b : Answer). MayFailPlan old.settings.servers jk answer.Planned b) (let e : answer.FaultRead k.0 ≡ a = cc in e) (inl known)
-    read_may (fault.Damaged k) same known =
-        subst (λ (b : Answer). MayFailPlan old.settings.servers jk answer.Planned b) (let e : answer.Damaged k.0 ≡ a = cc in e) (inl known)
-    read_may fault.Memory same known = absurd (memory_none fault.Memory a same refl)
-    read_may fault.Write same known = absurd known
-    read_may (fault.Punch k) same known = absurd known
+    read_may : (w : Fault) → fault_answer w ≡ Some a → IsOfServers old.settings.servers w → MayFailPlan old.settings.servers jk Answer.Planned a
+    read_may (Fault.Read k) same known =
+        subst (λ (b : Answer). MayFailPlan old.settings.servers jk Answer.Planned b) (let e : Answer.FaultRead k.0 ≡ a = cc in e) (inl known)
+    read_may (Fault.Damaged k) same known =
+        subst (λ (b : Answer). MayFailPlan old.settings.servers jk Answer.Planned b) (let e : Answer.Damaged k.0 ≡ a = cc in e) (inl known)
+    read_may Fault.Memory same known = absurd (memory_none Fault.Memory a same refl)
+    read_may Fault.Write same known = absurd known
+    read_may (Fault.Punch k) same known = absurd known
 
-    pub plan_may : MayFailPlan old.settings.servers jk answer.Planned a
+    pub plan_may : MayFailPlan old.settings.servers jk Answer.Planned a
     plan_may = by fails
       where
-        by : IsPlanFault kind old new (job_target i r jk) (region_in_map now i r) why → MayFailPlan old.settings.servers jk answer.Planned a
+        by : IsPlanFault kind old new (job_target i r jk) (region_in_map now i r) why → MayFailPlan old.settings.servers jk Answer.Planned a
         by (inl memory) = absurd (memory_none why a is memory)
         by (inr (inl lacks)) = read_may why is
             (region_fault_known kind old new (region_in_map now i r) why lent (region_in (inside_of kind old) any_slice inside) lacks.cause)
@@ -239,20 +184,20 @@ module _ {S : Type 0} {kind : StoreKind S} (laws : KindLaws kind) (old new : Dev
       -- too few servers took the list
       write_caused : (w : Fault) → fault_answer w ≡ Some a → LacksServers kind old new (job_target i r jk) (region_in_map now i r) w
           → HasCause kind (between old new) old.settings ⊥ (AreBased before) full (load_of_job jk) a
-      write_caused fault.Write same lacks =
+      write_caused Fault.Write same lacks =
           let few : AreTooFew kind (between old new) old.settings.servers old.settings.replicas =
           subst (λ (st : Settings). AreTooFew kind (between old new) st.servers st.replicas) lacks.goes.settings
           (few_since laws old lacks.mid new lacks.goes lacks.mid.settings.servers lacks.mid.settings.replicas lacks.out) in
           subst (λ (b : Answer). HasCause kind (between old new) old.settings ⊥ (AreBased before) full (load_of_job jk) b)
-          (let e : answer.FaultWrite ≡ a = cc in e) (by jk lacks.spilled, few)
+          (let e : Answer.FaultWrite ≡ a = cc in e) (by jk lacks.spilled, few)
         where
           by : (k : JobKind) → spills k (end_of (region_in_map now i r)) ≡ true → HasToStore (load_of_job k)
           by Compact bad = absurd (true≢false (sym bad))
           by Spill good = tt
-      write_caused (fault.Read k) same lacks = absurd lacks.out
-      write_caused (fault.Punch k) same lacks = absurd lacks.out
-      write_caused (fault.Damaged k) same lacks = absurd lacks.out
-      write_caused fault.Memory same lacks = absurd (memory_none fault.Memory a same refl)
+      write_caused (Fault.Read k) same lacks = absurd lacks.out
+      write_caused (Fault.Punch k) same lacks = absurd lacks.out
+      write_caused (Fault.Damaged k) same lacks = absurd lacks.out
+      write_caused Fault.Memory same lacks = absurd (memory_none Fault.Memory a same refl)
 
       pub plan_by : HasCause kind (between old new) old.settings ⊥ (AreBased before) full (load_of_job jk) a
       plan_by = by fails
@@ -274,21 +219,21 @@ module _ {S : Type 0} {kind : StoreKind S} (laws : KindLaws kind) (old new : Dev
       where
         all_added : (q : JobKind) (b : Answer) → OnlyRead kind (between old new) → AddsBytes kind (between old new) old.settings (load_of_job q) b
         all_added Compact b reads = none_added kind (between old new) old.settings b reads.lengths
-        all_added Spill answer.FaultWrite reads = tt
-        all_added Spill answer.Planned reads = inl reads.lengths
+        all_added Spill Answer.FaultWrite reads = tt
+        all_added Spill Answer.Planned reads = inl reads.lengths
         all_added Spill b reads = reads.lengths
-    left k same fault.Write e (inr (inr lacks)) =
-        subst (λ (b : Answer). AddsBytes kind (between old new) old.settings (load_of_job k) b) (let f : answer.FaultWrite ≡ a = cc in f) (by k)
+    left k same Fault.Write e (inr (inr lacks)) =
+        subst (λ (b : Answer). AddsBytes kind (between old new) old.settings (load_of_job k) b) (let f : Answer.FaultWrite ≡ a = cc in f) (by k)
       where
-        by : (q : JobKind) → AddsBytes kind (between old new) old.settings (load_of_job q) answer.FaultWrite
+        by : (q : JobKind) → AddsBytes kind (between old new) old.settings (load_of_job q) Answer.FaultWrite
         by Compact = tt
         by Spill = tt
-    left k same (fault.Read s) e (inr (inr lacks)) = absurd lacks.out
-    left k same (fault.Punch s) e (inr (inr lacks)) = absurd lacks.out
-    left k same (fault.Damaged s) e (inr (inr lacks)) = absurd lacks.out
-    left k same fault.Memory e (inr (inr lacks)) = absurd (memory_none fault.Memory a e refl)
+    left k same (Fault.Read s) e (inr (inr lacks)) = absurd lacks.out
+    left k same (Fault.Punch s) e (inr (inr lacks)) = absurd lacks.out
+    left k same (Fault.Damaged s) e (inr (inr lacks)) = absurd lacks.out
+    left k same Fault.Memory e (inr (inr lacks)) = absurd (memory_none Fault.Memory a e refl)
 
-    pub plan_fails : ServesLine kind (between old new) (lent_by old new) before before (event.Plan j jk p r) a
+    pub plan_fails : ServesLine kind (between old new) (lent_by old new) before before (Event.Plan j jk p r) a
     plan_fails = record {
       inside = later laws old new goes lent before sound inside;
       bare = λ free h. h;

@@ -1,30 +1,10 @@
 -- What lines of jobs change of the tables, and what these name then.
-use Rattle.std.proofs.Common.{◌≡◌, ◌≤◌, ℕ, nat_eq, Bool, true, List, [], Option, None, Some, refl, sym, ap, ◌∙◌, subst, ⊎_elim, arith}
-use Rattle.std.specs.Prelude.{if◌then◌else◌}
-use Rattle.wtf_base.specs.declared.slice.Slice.{Slice}
-use Rattle.wtf_kv.specs.Stores.{Store}
-use Rattle.wtf_overlay.specs.Origin.{Place}
-use Rattle.wtf_values.specs.declared.key.Key.{Key}
-use Rattle.wtf_values.specs.declared.value.Value.{Value}
-use Rattle.wtf_model.specs.declared.answer.Answer.{Answer}
-use Rattle.wtf_model.specs.declared.answer.Answer.TheVariants as answer
-use Rattle.wtf_model.specs.declared.op.JobKind.{JobKind}
-use Rattle.wtf_meta.specs.Bytes.{MapBytes, MaybeBytes}
-use Rattle.wtf_meta.specs.Maps.{metadata_at}
-use Rattle.wtf_values.specs.declared.region.RegionValue.{RegionValue}
-use Rattle.wtf_compact.specs.declared.target.Target.{Target}
-use Rattle.wtf_compact.specs.Planned.{HasForm, spills}
-use Rattle.wtf_compact.specs.Jobs.{JobView, target_region}
-use Rattle.wtf_compact.specs.Putting.{IsJobPut}
-use Rattle.wtf_compact.proofs.PutLaws.{put_bytes}
-use Rattle.wtf_clients.specs.Views.{TablesView, of_client, of_label, metadata_now}
-use Rattle.wtf_clients.specs.Sounds.{planned, AreSound}
-use Rattle.wtf_clients.specs.Named.{TablesBytes}
-use Rattle.wtf_clients.specs.JobTurns.{IsMadeOf, Plans, Puts, DropsJob}
-use Rattle.wtf_clients.proofs.JobFrames.{JobTurned}
-use Rattle.wtf_clients.proofs.Lives.{Reaches, now_bytes, begun_reaches, ended_reaches}
-use Rattle.wtf_clients.proofs.Naming.{live_along, now_along, txn_along}
-use Rattle.wtf_clients.proofs.Pins.{number_cases}
+use Rattle.wtf_clients.proofs.Common.{if◌then◌else◌, Slice, Store, Place, Key, Value, Answer, JobKind, MapBytes, MaybeBytes, metadata_at, RegionValue, Target}
+use Rattle.wtf_clients.proofs.Common.{HasForm, spills, JobView, target_region, IsJobPut, put_bytes, TablesView, of_client, of_label, metadata_now, planned}
+use Rattle.wtf_clients.proofs.Common.{AreSound, TablesBytes, IsMadeOf, Plans, Puts, DropsJob, ◌≡◌, ◌≤◌, ℕ, nat_eq, Bool, true, List, [], Option, None, Some}
+use Rattle.wtf_clients.proofs.Common.{refl, sym, ap, ◌∙◌, subst, ⊎_elim, arith, IsPinnedOnceMore, KeepsMaps, KeepsOthers}
+use Rattle.wtf_clients.proofs.{JobFrames.JobTurned, Lives.Reaches, Lives.now_bytes, Lives.begun_reaches, Lives.ended_reaches, Naming.live_along}
+use Rattle.wtf_clients.proofs.{Naming.now_along, Naming.txn_along, Pins.number_cases}
 
 -- what was made of a region has the form that its kind says
 made_form : (t : Target) (now value : Option RegionValue) → IsMadeOf t now value → HasForm t value
@@ -62,25 +42,30 @@ module _ (old new : TablesView) (j : ℕ) (sound : AreSound old) where
     pub plan_reaches : Reaches old.kv new.kv
     plan_reaches = begun_reaches old.kv new.kv plans.pinned
 
+  -- one goes
+  gone_turned : (x : JobView) → of_label old.beside.jobs j ≡ Some x → KeepsOthers old new j None → old.kv.number ≤ new.kv.number
+      → KeepsMaps old.kv new.kv → IsPinnedOnceMore x.base new.kv old.kv → JobTurned old new j None
+  gone_turned x there keeps later maps unpinned = record {
+    keeps = keeps;
+    later = later;
+    maps = maps;
+    pins = λ n.
+        let fewer = unpinned n in
+        let was : planned n (of_label old.beside.jobs j) ≡ planned n (Some x) = ap (planned n) there in
+        omega (arith, fewer, was);
+    based = λ y e. absurd (cc);
+    formed = λ y e. absurd (cc);
+  }
+
   -- one is put in place, or is stale
   module _ (x : JobView) (there : of_label old.beside.jobs j ≡ Some x) (a : Answer) (did : Puts old new j x a) where
     put_later : (b : Answer) → IsJobPut x old.kv new.kv b → old.kv.number ≤ new.kv.number
-    put_later (answer.Installed n) put = let next = put.next in let number = put.number in omega (arith, next, number)
-    put_later (answer.Stale b n) put = let number = put.number in omega (arith, number)
+    put_later (Answer.Installed n) put = let next = put.next in let number = put.number in omega (arith, next, number)
+    put_later (Answer.Stale b n) put = let number = put.number in omega (arith, number)
     put_later b put = absurd put
 
     pub put_turned : JobTurned old new j None
-    put_turned = record {
-      keeps = did.keeps;
-      later = put_later a did.put;
-      maps = did.maps;
-      pins = λ n.
-          let fewer = did.unpinned n in
-          let was : planned n (of_label old.beside.jobs j) ≡ planned n (Some x) = ap (planned n) there in
-          omega (arith, fewer, was);
-      based = λ y e. absurd (cc);
-      formed = λ y e. absurd (cc);
-    }
+    put_turned = gone_turned x there did.keeps (put_later a did.put) did.maps did.unpinned
 
     pub put_reaches : Reaches old.kv new.kv
     put_reaches = ended_reaches old.kv old.kv new.kv x.base (λ n. refl) did.unpinned
@@ -91,17 +76,8 @@ module _ (old new : TablesView) (j : ℕ) (sound : AreSound old) where
     drop_number = ap (λ (s : Store Key Value). s.number) did.kv
 
     pub drop_turned : JobTurned old new j None
-    drop_turned = record {
-      keeps = did.keeps;
-      later = let number = drop_number in omega (arith, number);
-      maps = λ n le. ap (λ (s : Store Key Value). metadata_at s n) did.kv;
-      pins = λ n.
-          let fewer = did.unpinned n in
-          let was : planned n (of_label old.beside.jobs j) ≡ planned n (Some x) = ap (planned n) there in
-          omega (arith, fewer, was);
-      based = λ y e. absurd (cc);
-      formed = λ y e. absurd (cc);
-    }
+    drop_turned = gone_turned x there did.keeps (let number = drop_number in omega (arith, number))
+        (λ n le. ap (λ (s : Store Key Value). metadata_at s n) did.kv) did.unpinned
 
     pub drop_reaches : Reaches old.kv new.kv
     drop_reaches = ended_reaches old.kv old.kv new.kv x.base (λ n. refl) did.unpinned

@@ -1,16 +1,8 @@
 -- Where nothing is open and only the number has an image or is watched, nothing but the number can be read.
-use Rattle.std.proofs.Common.{◌≡◌, ℕ, zero, suc, ◌<◌, true, false, cond, nat_eq, count_by, [], ◌∷◌}
-use Rattle.std.proofs.Common.{Option, None, Some, refl, sym, ap, ◌∙◌, ⊎_elim, arith}
-use Rattle.std.specs.Prelude.{IsTrue, if◌then◌else◌}
-use Rattle.std.specs.List.{list_any}
-use Rattle.std.proofs.lemmas.Bool.{cases_Bool, or_cases, cases_lt, false≢true, eq-eqb, eqb-true}
-use Rattle.std.proofs.lemmas.List.Sums.{sum_by-cons}
-use Rattle.wtf_kv.specs.Stores.{is_live}
-use Rattle.wtf_kv.proofs.PinLaws.{any-count, count-any}
-use Rattle.wtf_replay.specs.Views.{TxnView}
-use Rattle.wtf_gc.specs.Views.{RunView}
-use Rattle.wtf_clients.specs.Sounds.{all_owned, planned, all_planned, all_seen, all_watched, AreSound}
-use Rattle.wtf_clients.specs.Views.{Clients, Jobs, TablesView, of_client, of_label}
+use Rattle.wtf_clients.proofs.Common.{IsTrue, if◌then◌else◌, list_any, cases_Bool, or_cases, cases_lt, false≢true, eq-eqb, eqb-true, sum_by-cons, is_live}
+use Rattle.wtf_clients.proofs.Common.{any-count, count-any, TxnView, RunView, all_owned, planned, all_planned, all_seen, all_watched, AreSound, Clients, Jobs}
+use Rattle.wtf_clients.proofs.Common.{TablesView, of_client, of_label, ◌≡◌, ℕ, zero, suc, ◌<◌, true, false, cond, nat_eq, count_by, [], ◌∷◌, Option, None, Some}
+use Rattle.wtf_clients.proofs.Common.{refl, sym, ap, ◌∙◌, ⊎_elim, arith}
 use Rattle.wtf_clients.proofs.Lives.{live_cases}
 
 -- ---- where no transaction and no job is open, and only the number has an image, is seen by a scan and is watched, nothing else can be read
@@ -32,8 +24,7 @@ none_planned n (o ∷ os) none =
 pub rests_alone : (tables : TablesView) → AreSound tables → ((c : ℕ) → of_client tables.clients c ≡ None) → ((j : ℕ) → of_label tables.beside.jobs j ≡ None)
     → tables.beside.images ≡ tables.kv.number ∷ []
     → ((r : RunView) → tables.beside.gc.running ≡ Some r → (n : ℕ) → list_any (nat_eq n) r.seen ≡ true → n ≡ tables.kv.number)
-    → ((n : ℕ) → tables.beside.watched ≡ Some n → n ≡ tables.kv.number)
-    → (n : ℕ) → IsTrue (is_live tables.kv n) → n ≡ tables.kv.number
+    → ((n : ℕ) → tables.beside.watched ≡ Some n → n ≡ tables.kv.number) → (n : ℕ) → IsTrue (is_live tables.kv n) → n ≡ tables.kv.number
 rests_alone tables sound clients jobs images seen watched n live = ⊎_elim
     (λ now. now)
     (λ pinned.
@@ -51,9 +42,7 @@ rests_alone tables sound clients jobs images seen watched n live = ⊎_elim
     let one : list_any (nat_eq n) (tables.kv.number ∷ []) ≡ true =
     any-count n (tables.kv.number ∷ []) (omega (arith, some, pins, owned, idle, image, none, unwatched)) in
     ⊎_elim (λ same. eqb-true n tables.kv.number same) (λ never. absurd (false≢true never)) (or_cases (nat_eq n tables.kv.number) false one))
-    (cases_lt 0 (all_watched n tables.beside.watched)))
-    (cases_lt 0 (all_seen n tables.beside.gc.running)))
-    (live_cases tables.kv n live)
+    (cases_lt 0 (all_watched n tables.beside.watched))) (cases_lt 0 (all_seen n tables.beside.gc.running))) (live_cases tables.kv n live)
   where
     by : (o : Option RunView) → tables.beside.gc.running ≡ o → 0 < all_seen n o → n ≡ tables.kv.number
     by None is some = absurd (omega (arith, some))

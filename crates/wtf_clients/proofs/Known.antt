@@ -1,36 +1,10 @@
 -- Over stores that tell, and lists that are true but where a byte of a slice was punched, which nothing names, a transaction may go on. And lists
 -- that a call knew are known of its line.
-use Rattle.std.proofs.Common.{◌≡◌, ℕ, ◌-◌, List, [], Some, length, refl, subst}
-use Rattle.wtf_base.specs.declared.settings.Settings.{Settings}
-use Rattle.wtf_dev.specs.Store.{StoreKind}
-use Rattle.wtf_dev.specs.Sums.{TellsAll}
-use Rattle.wtf_kv.specs.Stores.{Store}
-use Rattle.wtf_values.specs.declared.key.Key.{Key}
-use Rattle.wtf_values.specs.declared.value.Value.{Value}
-use Rattle.wtf_model.specs.declared.answer.Answer.{Answer, Aborted'}
-use Rattle.wtf_model.specs.declared.answer.Answer.TheVariants as answer
-use Rattle.wtf_model.specs.declared.op.Op.{Op}
-use Rattle.wtf_meta.specs.Lists.{ListFact, TellLists}
-use Rattle.wtf_meta.specs.Calls.{InHand}
-use Rattle.wtf_meta.specs.Bytes.{MapBytes}
-use Rattle.wtf_meta.specs.Contents.{Told, is_told, is_listed, lists_in}
-use Rattle.wtf_meta.specs.Maps.{Map, metadata_at}
-use Rattle.wtf_ring.specs.Points.{IsRing}
-use Rattle.wtf_region.specs.declared.dev.Dev.{Dev}
-use Rattle.wtf_region.specs.Apart.{are_apart}
-use Rattle.wtf_region.specs.Devs.{GoesOn, stores, between, told_in, RemembersTrue}
-use Rattle.wtf_region.specs.Reads.{TellsFacts}
-use Rattle.wtf_replay.specs.Views.{TxnView}
-use Rattle.wtf_replay.specs.Insides.{lists_have}
-use Rattle.wtf_replay.specs.Sounds.{LogStands, TellsMap, IsAwayTxn}
-use Rattle.wtf_replay.specs.Verbs.{turn, StartsSound, StartsNow}
-use Rattle.wtf_replay.specs.Effects.{Scope, scope, Redoes}
-use Rattle.wtf_replay.specs.Installs.{IsInstall}
-use Rattle.wtf_replay.proofs.EffectLaws.{redone_later}
-use Rattle.wtf_clients.specs.Asked.{IsLent, lent_by}
-use Rattle.wtf_clients.specs.Seeing.{seeing}
-use Rattle.wtf_clients.specs.Views.{TablesView, of_client, metadata_now}
-use Rattle.wtf_clients.specs.Turns.{AreTrue, ReadsLists}
+use Rattle.wtf_clients.proofs.Common.{Settings, StoreKind, TellsAll, Store, Key, Value, Answer, Aborted', Op, ListFact, TellLists, InHand, MapBytes, Told}
+use Rattle.wtf_clients.proofs.Common.{is_told, is_listed, lists_in, Map, metadata_at, IsRing, Dev, are_apart, GoesOn, stores, between, told_in, RemembersTrue}
+use Rattle.wtf_clients.proofs.Common.{TellsFacts, TxnView, lists_have, LogStands, TellsMap, IsAwayTxn, turn, StartsSound, StartsNow, Scope, scope, Redoes}
+use Rattle.wtf_clients.proofs.Common.{IsInstall, redone_later, IsLent, lent_by, seeing, TablesView, of_client, metadata_now, AreTrue, ReadsLists, ◌≡◌, ℕ, ◌-◌}
+use Rattle.wtf_clients.proofs.Common.{List, [], Some, length, refl, subst}
 use Rattle.wtf_clients.proofs.Lives.{now_bytes}
 
 module _ {S : Type 0} (kind : StoreKind S) (dev : Dev S) (all : TellsAll kind (stores dev)) (tables : TablesView)
@@ -95,7 +69,7 @@ module _ {S : Type 0} (kind : StoreKind S) (old new : Dev S) (goes : GoesOn kind
   }
 
   pub knows_install : (kv after : Store Key Value) (x : TxnView) (a : Answer) → IsInstall (scope kind old new) kv after x a → IsInstall known kv after x a
-  knows_install kv after x (answer.Committed n) h = record {
+  knows_install kv after x (Answer.Committed n) h = record {
     hand = h.hand;
     lists = h.lists;
     redone = redone_later (scope kind old new) known refl knows kv x (length x.log.ops - x.replayed) h.lists h.hand h.redone;

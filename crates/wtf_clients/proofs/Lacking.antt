@@ -1,36 +1,14 @@
 -- Why the list of a region, or bytes of a file, were not read.
-use Rattle.std.proofs.Common.{◌≡◌, ℕ, Bool, true, List, [], ◌∷◌, Option, None, Some, refl, sym, ap, ◌∙◌, subst, inl, inr, arith}
-use Rattle.std.specs.List.{All}
-use Rattle.std.proofs.lemmas.Bool.{false≢true}
-use Rattle.std.proofs.lemmas.List.Elements.{All-nil, All-cons}
-use Rattle.wtf_base.specs.declared.fault.Fault.{Fault}
-use Rattle.wtf_base.specs.declared.fault.Fault.TheVariants as fault
-use Rattle.wtf_base.specs.declared.settings.Settings.{Settings}
-use Rattle.wtf_base.specs.declared.slice.Slice.{Slice}
-use Rattle.wtf_dev.specs.Store.{StoreKind, KindLaws}
-use Rattle.wtf_overlay.specs.Origin.{Place}
-use Rattle.wtf_overlay.specs.declared.part.Entry.{Entry}
-use Rattle.wtf_overlay.specs.declared.part.Piece.{Piece}
-use Rattle.wtf_values.specs.declared.region.RegionValue.{RegionValue}
-use Rattle.wtf_values.specs.declared.region.Spill.{Spill}
-use Rattle.wtf_model.specs.declared.answer.Answer.{Answer}
-use Rattle.wtf_model.specs.declared.answer.Answer.TheVariants as answer
-use Rattle.wtf_meta.specs.Lists.{ListFact}
-use Rattle.wtf_meta.specs.Bytes.{EntryBytes, SliceBytes, BaseBytes, MaybeBytes, FileBytes, ListsBytes, PiecesBytes, any_slice}
-use Rattle.wtf_meta.specs.Files.{FileView}
-use Rattle.wtf_region.specs.declared.dev.Dev.{Dev}
-use Rattle.wtf_region.specs.Devs.{IsSoundDev, GoesOn, stores, inside_of, between}
-use Rattle.wtf_region.specs.Reads.{IsFileRead, IsSliceFault, IsBaseFault, IsRegionFault, LacksRegion}
-use Rattle.wtf_region.proofs.ListReads.{file_later}
-use Rattle.wtf_steps.specs.Faults.{LacksBytes}
-use Rattle.wtf_rw.specs.Reads.{LacksRead}
-use Rattle.wtf_replay.specs.Causes.{fault_answer}
-use Rattle.wtf_clients.specs.Named.{any_byte, no_slice, has_copies}
-use Rattle.wtf_clients.specs.Outcomes.{no_load, HasCause}
+use Rattle.wtf_clients.proofs.Common.{All, false≢true, All-nil, All-cons, Fault, Settings, Slice, StoreKind, KindLaws, Place, Entry, Piece, RegionValue, Spill}
+use Rattle.wtf_clients.proofs.Common.{Answer, ListFact, EntryBytes, BaseBytes, MaybeBytes, FileBytes, ListsBytes, PiecesBytes, any_slice, FileView, Dev}
+use Rattle.wtf_clients.proofs.Common.{IsSoundDev, GoesOn, stores, inside_of, between, IsFileRead, IsSliceFault, IsBaseFault, IsRegionFault, LacksRegion}
+use Rattle.wtf_clients.proofs.Common.{file_later, LacksBytes, LacksRead, fault_answer, any_byte, no_slice, has_copies, no_load, HasCause, ◌≡◌, ℕ, Bool, true}
+use Rattle.wtf_clients.proofs.Common.{List, [], ◌∷◌, Option, None, Some, refl, sym, ap, ◌∙◌, subst, inl, inr, arith}
+use Rattle.wtf_meta.specs.Bytes.{SliceBytes}
 use Rattle.wtf_clients.proofs.Unread.{unread_list, unread_since, no_list_since, lacks_unread}
 
 -- want of memory is answered by no fault
-pub memory_none : (why : Fault) (a : Answer) → fault_answer why ≡ Some a → why ≡ fault.Memory → ⊥
+pub memory_none : (why : Fault) (a : Answer) → fault_answer why ≡ Some a → why ≡ Fault.Memory → ⊥
 memory_none why a is memory = let e : None ≡ Some a = sym (ap fault_answer memory) ∙ is in cc
 
 -- where no slice may be a base nothing is asked of lists that were read
@@ -56,9 +34,9 @@ cause_since {kind = kind} laws old mid new based full a goes h =
   where
     by : (b : Answer) → HasCause kind (between mid new) old.settings ⊥ based full no_load b
         → HasCause kind (between old new) old.settings ⊥ based full no_load b
-    by (answer.FaultRead k) c = unread_since laws old mid new old.settings full k goes c
-    by (answer.Damaged k) c = no_list_since laws old mid new old.settings based k goes c
-    by answer.FaultWrite c = absurd (let some = c.0 in omega (arith, some))
+    by (Answer.FaultRead k) c = unread_since laws old mid new old.settings full k goes c
+    by (Answer.Damaged k) c = no_list_since laws old mid new old.settings based k goes c
+    by Answer.FaultWrite c = absurd (let some = c.0 in omega (arith, some))
     by b c = c
 
 -- Where `full` holds, each byte of a list that was read of a base, with bytes of a file that were then not shown, has as many copies as there
@@ -77,15 +55,15 @@ module _ {S : Type 0} (kind : StoreKind S) (old new : Dev S) (sound : IsSoundDev
   -- a list that was not read, or is none
   slice_caused : (s : Slice) (q : Fault) → SliceBytes (inside_of kind old) s → ((Q : Slice → Bool) → based Q → Q s ≡ true)
       → (full → SliceBytes (has_copies old.settings.replicas) s) → IsSliceFault kind old new s q → Caused q
-  slice_caused s (fault.Read k) inside passes whole cause same =
-      subst (λ (r : Answer). HasCause kind (between old new) old.settings ⊥ based full no_load r) (let e : answer.FaultRead k.0 ≡ a = cc in e)
+  slice_caused s (Fault.Read k) inside passes whole cause same =
+      subst (λ (r : Answer). HasCause kind (between old new) old.settings ⊥ based full no_load r) (let e : Answer.FaultRead k.0 ≡ a = cc in e)
       (unread_list kind (between old new) (stores old) old.settings sound.shelf s full k.0 inside whole cause.out)
-  slice_caused s (fault.Damaged k) inside passes whole cause same =
-      subst (λ (r : Answer). HasCause kind (between old new) old.settings ⊥ based full no_load r) (let e : answer.Damaged k.0 ≡ a = cc in e)
+  slice_caused s (Fault.Damaged k) inside passes whole cause same =
+      subst (λ (r : Answer). HasCause kind (between old new) old.settings ⊥ based full no_load r) (let e : Answer.Damaged k.0 ≡ a = cc in e)
       (record { slice = s; bytes = cause.bytes; whole = cause.whole; read = cause.read; bad = cause.bad; passes = passes })
-  slice_caused s fault.Memory inside passes whole cause same = absurd (memory_none fault.Memory a same refl)
-  slice_caused s fault.Write inside passes whole cause same = absurd cause
-  slice_caused s (fault.Punch k) inside passes whole cause same = absurd cause
+  slice_caused s Fault.Memory inside passes whole cause same = absurd (memory_none Fault.Memory a same refl)
+  slice_caused s Fault.Write inside passes whole cause same = absurd cause
+  slice_caused s (Fault.Punch k) inside passes whole cause same = absurd cause
 
   base_caused : (base : Option Spill) (P : List Place → Bool) → BaseBytes (inside_of kind old) any_slice base
       → ((Q : Slice → Bool) → based Q → BaseBytes P Q base) → (full → BaseBytes (has_copies old.settings.replicas) O base)
@@ -120,12 +98,12 @@ module _ {S : Type 0} {kind : StoreKind S} (laws : KindLaws kind) (old new : Dev
   shown_caused n Are whole lacks = by why is lacks
     where
       by : (q : Fault) → fault_answer q ≡ Some a → LacksBytes kind old new n Are q → HasCause kind (between old new) old.settings ⊥ based full no_load a
-      by (fault.Read k) same l = subst (λ (r : Answer). HasCause kind (between old new) old.settings ⊥ based full no_load r)
-          (let e : answer.FaultRead k.0 ≡ a = cc in e) (lacks_unread laws old new n Are full k whole l)
-      by fault.Memory same l = absurd (memory_none fault.Memory a same refl)
-      by fault.Write same l = absurd l.fault
-      by (fault.Punch k) same l = absurd l.fault
-      by (fault.Damaged k) same l = absurd l.fault
+      by (Fault.Read k) same l = subst (λ (r : Answer). HasCause kind (between old new) old.settings ⊥ based full no_load r)
+          (let e : Answer.FaultRead k.0 ≡ a = cc in e) (lacks_unread laws old new n Are full k whole l)
+      by Fault.Memory same l = absurd (memory_none Fault.Memory a same refl)
+      by Fault.Write same l = absurd l.fault
+      by (Fault.Punch k) same l = absurd l.fault
+      by (Fault.Damaged k) same l = absurd l.fault
 
   -- and those of a file
   pub read_caused : (file : FileView) (off n : ℕ) (P : List Place → Bool) → FileBytes (inside_of kind old) any_slice file

@@ -1,24 +1,11 @@
 -- What a line leaves alone, from what is known of its parts.
-use Rattle.std.proofs.Common.{◌≡◌, ◌≢◌, ℕ, List, Bool, Option, None, Some, IfSome, inl, refl, ap, subst}
-use Rattle.wtf_base.specs.declared.settings.Settings.{Settings}
-use Rattle.wtf_dev.specs.Store.{StoreKind}
-use Rattle.wtf_replica.specs.Outs.{IsLeftDown, SameLengths, SameSyncs}
-use Rattle.wtf_replica.specs.Spans.{Span, span}
-use Rattle.wtf_model.specs.declared.event.Event.{Event}
-use Rattle.wtf_model.specs.declared.event.Event.TheVariants as event
-use Rattle.wtf_model.specs.declared.event.Verb.{Verb}
-use Rattle.wtf_region.specs.declared.dev.Dev.{Dev}
-use Rattle.wtf_region.specs.Cached.{Remembered}
-use Rattle.wtf_region.specs.Devs.{remembered, between}
-use Rattle.wtf_region.specs.Showing.{OnlyRead}
-use Rattle.wtf_replay.specs.Views.{TxnView}
-use Rattle.wtf_clients.specs.Asked.{lending, lent_by, line_asked}
-use Rattle.wtf_clients.specs.Leaving.{MakesNoCall, ReadsNoList, SyncsNone, GrowsOnly, LeavesAlone}
-use Rattle.wtf_clients.specs.Views.{TablesView, of_client}
+use Rattle.wtf_clients.proofs.Common.{Settings, StoreKind, IsLeftDown, SameLengths, SameSyncs, Span, span, Event, Verb, Dev, Remembered, remembered, between}
+use Rattle.wtf_clients.proofs.Common.{OnlyRead, TxnView, lending, lent_by, line_asked, MakesNoCall, ReadsNoList, SyncsNone, GrowsOnly, LeavesAlone, TablesView}
+use Rattle.wtf_clients.proofs.Common.{of_client, ◌≡◌, ◌≢◌, ℕ, List, Bool, Option, None, Some, IfSome, inl, refl, ap, subst}
 
 -- stores that were not synced
 pub syncs_none : {S : Type 0} (kind : StoreKind S) (t : Span S) (e : Event) → SameSyncs kind t.before t.after → SyncsNone kind t e
-syncs_none kind t event.Save h = tt
+syncs_none kind t Event.Save h = tt
 syncs_none kind t e h = h
 
 -- a line that is lent nothing
@@ -33,15 +20,14 @@ leaves_none kind down shelf settings lists tables e = record {
 
 -- a save, which syncs
 pub save_leaves : {S : Type 0} (kind : StoreKind S) (down : ℕ → Bool) (old new : List S) (settings : Settings) (lists : Remembered) (tables : TablesView)
-    → IsLeftDown (span down old new) → SameLengths kind old new → LeavesAlone kind (span down old new) (lending settings lists lists) tables event.Save
+    → IsLeftDown (span down old new) → SameLengths kind old new → LeavesAlone kind (span down old new) (lending settings lists lists) tables Event.Save
 save_leaves kind down old new settings lists tables left lengths = record { down = left; syncs = tt; files = inl lengths; lists = λ none. refl }
 
 module _ {S : Type 0} (kind : StoreKind S) (dev new : Dev S) (tables : TablesView) (e : Event) where
   -- one that was lent devices
   pub leaves_by : IsLeftDown (between dev new) → SameSyncs kind (between dev new).before (between dev new).after
       → GrowsOnly kind (between dev new) (line_asked kind (between dev new) (lent_by dev new) tables e)
-      → (ReadsNoList dev.settings.region tables e → remembered new ≡ remembered dev)
-      → LeavesAlone kind (between dev new) (lent_by dev new) tables e
+      → (ReadsNoList dev.settings.region tables e → remembered new ≡ remembered dev) → LeavesAlone kind (between dev new) (lent_by dev new) tables e
   leaves_by down syncs files lists = record { down = down; syncs = syncs_none kind (between dev new) e syncs; files = files; lists = lists }
 
   -- and only read

@@ -1,3 +1,4 @@
+pub mod Common
 pub mod Later
 pub mod Lives
 pub mod Pins
@@ -33,7 +34,6 @@ pub mod SafeLaws
 pub mod ScanLaws
 pub mod ScanServing
 pub mod StampLaws
-pub mod Oldest
 pub mod ScanFrames
 pub mod Goings
 pub mod Added
@@ -45,14 +45,11 @@ pub mod Freeing
 pub mod Collected
 pub mod Scanning
 pub mod KeptNames
-pub mod PrunedTables
+pub mod Alike
 pub mod PieceServing
 pub mod HoldLaws
 pub mod ScanMays
-pub mod ScanStarts
 pub mod Soundness
 pub mod Leaving
 pub mod Lining
 pub mod ClientLines
-pub mod DumpLines
-pub mod PlanLines

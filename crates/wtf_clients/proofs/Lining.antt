@@ -1,31 +1,10 @@
 -- What a line of the tables does, from its parts.
-use Rattle.std.proofs.Common.{◌≡◌, [], Some, Result, Ok, Err, IfOk, refl, sym, subst}
-use Rattle.wtf_base.specs.declared.fault.Fault.{Fault}
-use Rattle.wtf_base.specs.declared.memory.OutOfMemory.{OutOfMemory}
-use Rattle.wtf_dev.specs.Store.{StoreKind, KindLaws}
-use Rattle.wtf_replica.specs.Downs.{is_down}
-use Rattle.wtf_model.specs.declared.answer.Answer.{Answer}
-use Rattle.wtf_model.specs.declared.answer.Answer.TheVariants as answer
-use Rattle.wtf_model.specs.declared.answer.Word.{Word}
-use Rattle.wtf_model.specs.declared.event.Event.{Event}
-use Rattle.wtf_meta.specs.Bytes.{any_slice}
-use Rattle.wtf_region.specs.declared.dev.Dev.{Dev}
-use Rattle.wtf_region.specs.Devs.{IsSoundDev, GoesOn, stores, remembered, between}
-use Rattle.wtf_region.specs.Inside.{is_inside}
-use Rattle.wtf_region.proofs.ShowLaws.{reads_nothing}
-use Rattle.wtf_region.proofs.Spans.{goes_nowhere}
-use Rattle.wtf_replay.specs.Causes.{fault_answer}
-use Rattle.wtf_clients.specs.Asked.{Asked, line_asked, lent_by}
-use Rattle.wtf_clients.specs.Leaving.{LeavesAlone}
-use Rattle.wtf_clients.specs.Lines.{Line, line, through, lent_in, TurnOf, LineOf}
-use Rattle.wtf_clients.specs.Named.{TablesBytes, any_byte, no_slice, has_copies}
-use Rattle.wtf_clients.specs.Serves.{AreBased, AreFull, ServesLine}
-use Rattle.wtf_clients.specs.Sounds.{AreSound, IsAlike}
-use Rattle.wtf_clients.specs.Telling.{TellsTables, ServesTold}
-use Rattle.wtf_clients.specs.Views.{TablesView}
-use Rattle.wtf_clients.proofs.Caused.{plain_caused, plain_failed, refused_placed, refused_adds}
-use Rattle.wtf_clients.proofs.Leaving.{leaves_none}
-use Rattle.wtf_clients.proofs.ToldServing.{same_told}
+use Rattle.wtf_clients.proofs.Common.{Fault, OutOfMemory, StoreKind, KindLaws, is_down, Answer, Word, Event, Dev, IsSoundDev, GoesOn, stores, remembered}
+use Rattle.wtf_clients.proofs.Common.{between, reads_nothing, goes_nowhere, fault_answer, Asked, line_asked, lent_by, LeavesAlone, Line, line, through, lent_in}
+use Rattle.wtf_clients.proofs.Common.{TurnOf, LineOf, TablesBytes, any_byte, no_slice, has_copies, AreBased, AreFull, ServesLine, AreSound, IsAlike}
+use Rattle.wtf_clients.proofs.Common.{TellsTables, ServesTold, TablesView, ◌≡◌, [], Some, Result, Ok, Err, IfOk, refl, sym, subst}
+use Rattle.wtf_clients.proofs.{Lives.AreInside, Caused.plain_caused, Caused.plain_failed, Caused.refused_placed, Caused.refused_adds, Leaving.leaves_none}
+use Rattle.wtf_clients.proofs.{ToldServing.same_told}
 
 -- what a line's answer stands with
 pub record Answered {S : Type 0} (l : Line S) (e : Event) (a : Answer) : Type 0 where
@@ -33,6 +12,11 @@ pub record Answered {S : Type 0} (l : Line S) (e : Event) (a : Answer) : Type 0 
   pub serves : ServesLine l.kind (through l) (lent_in l) l.old l.new e a
   pub told : TellsTables l.kind (stores l.before) l.before.settings (remembered l.before) l.old
       → ServesTold l.kind (through l) l.before.settings (l.old, l.new) a
+
+-- a line of the tables, by their fields, is one of what is seen of them
+pub line_of : {S : Type 0} {kind : StoreKind S} {dev after : Dev S} {old seen new : TablesView} {e : Event} {r : Result Answer OutOfMemory} → old ≡ seen
+    → LineOf (line kind dev after old new) e r → LineOf (line kind dev after seen new) e r
+line_of {kind = kind} {dev = dev} {after = after} {new = new} {e = e} {r = r} same = subst (λ (t : TablesView). LineOf (line kind dev after t new) e r) same
 
 -- a line that is answered
 pub answered_line : {S : Type 0} (l : Line S) (e : Event) (a : Answer) → Answered l e a → LeavesAlone l.kind (through l) (lent_in l) l.old e
@@ -64,28 +48,24 @@ module _ {S : Type 0} {kind : StoreKind S} (laws : KindLaws kind) (dev : Dev S) 
       dev = goes_nowhere laws dev lent;
     }
 
-    module _ (sound : AreSound old) (inside : TablesBytes (is_inside kind (stores dev) dev.settings) any_slice old) (e : Event) (w : Word) where
+    module _ (sound : AreSound old) (inside : AreInside kind dev old) (e : Event) (w : Word) where
       abbrev asked : Asked
       asked = line_asked kind (between dev dev) (lent_by dev dev) old e
 
       -- one that is refused leaves all
-      pub refused_serves : ServesLine kind (between dev dev) (lent_by dev dev) old after e (answer.Refused w)
+      pub refused_serves : ServesLine kind (between dev dev) (lent_by dev dev) old after e (Answer.Refused w)
       refused_serves = record {
-        inside = subst (TablesBytes (is_inside kind (stores dev) dev.settings) any_slice) (sym same) inside;
+        inside = subst (AreInside kind dev) (sym same) inside;
         bare = λ free. subst (TablesBytes any_byte no_slice) (sym same);
         full = λ free. subst (TablesBytes (has_copies dev.settings.replicas) no_slice) (sym same);
-        adds = refused_adds kind (between dev dev) dev.settings asked.given (answer.Refused w) tt
+        adds = refused_adds kind (between dev dev) dev.settings asked.given (Answer.Refused w) tt
             (reads_nothing kind (is_down dev.replicas.now) (stores dev)).lengths;
-        caused = plain_caused kind (between dev dev) dev.settings ⊥ (AreBased old) (AreFull dev.settings old) asked.given (answer.Refused w) tt;
-        placed = refused_placed kind (between dev dev) dev.settings asked (answer.Refused w) tt;
-        failed = plain_failed asked.fails (answer.Refused w) tt;
+        caused = plain_caused kind (between dev dev) dev.settings ⊥ (AreBased old) (AreFull dev.settings old) asked.given (Answer.Refused w) tt;
+        placed = refused_placed kind (between dev dev) dev.settings asked (Answer.Refused w) tt;
+        failed = plain_failed asked.fails (Answer.Refused w) tt;
       }
 
-      pub refused_line : TurnOf (line kind dev dev old after) e (answer.Refused w) → LineOf (line kind dev dev old after) e (Ok (answer.Refused w))
-      refused_line turn = answered_line (line kind dev dev old after) e (answer.Refused w)
-          (record {
-            turn = turn;
-            serves = refused_serves;
-            told = same_told laws dev lent old after sound inside same (answer.Refused w) tt;
-          })
+      pub refused_line : TurnOf (line kind dev dev old after) e (Answer.Refused w) → LineOf (line kind dev dev old after) e (Ok (Answer.Refused w))
+      refused_line turn = answered_line (line kind dev dev old after) e (Answer.Refused w)
+          (record { turn = turn; serves = refused_serves; told = same_told laws dev lent old after sound inside same (Answer.Refused w) tt })
           (leaves_none kind (is_down dev.replicas.now) (stores dev) dev.settings (remembered dev) old e) (goes_nowhere laws dev lent)

@@ -1,17 +1,8 @@
 -- The list of the open transactions, where that of one client is written, taken out, or new.
-use Rattle.std.proofs.Common.{◌≡◌, ℕ, ◌+◌, cond, nat_eq, [], ◌∷◌, ◌++◌, Option, None, Some, is_some, if◌then◌else◌, refl, sym, ap, ◌∙◌, ⊎_elim, arith, ne_eqb}
-use Rattle.std.proofs.Common.{eq-eqb}
-use Rattle.std.specs.Option.{option_map, unwrap_or}
-use Rattle.std.specs.List.{sum_by}
-use Rattle.std.specs.HashMap.{HashMap, WritesThrough}
-use Rattle.std.specs.Map.{set_value, remove_entry, values_of}
-use Rattle.std.proofs.lemmas.List.Sums.{sum_by-cons, sum_by-append}
-use Rattle.std.proofs.lemmas.Bool.{cases_Bool}
-use Rattle.std.proofs.lemmas.Map.Entries.{sum_by-set_value, sum_by-remove_entry}
-use Rattle.std.proofs.lemmas.Map.Steps.{set_value_same}
-use Rattle.wtf_replay.specs.Views.{TxnView}
-use Rattle.wtf_clients.specs.Views.{Clients, of_client, set_client, without_hand, without_hands}
-use Rattle.wtf_clients.specs.Sounds.{owned, all_owned, Sets}
+use Rattle.wtf_clients.proofs.Common.{option_map, unwrap_or, sum_by, HashMap, WritesThrough, set_value, remove_entry, values_of, sum_by-cons, sum_by-append}
+use Rattle.wtf_clients.proofs.Common.{cases_Bool, sum_by-set_value, sum_by-remove_entry, set_value_same, TxnView, Clients, of_client, set_client, without_hand}
+use Rattle.wtf_clients.proofs.Common.{without_hands, owned, all_owned, Sets, ◌≡◌, ℕ, ◌+◌, cond, nat_eq, [], ◌∷◌, ◌++◌, Option, None, Some, is_some}
+use Rattle.wtf_clients.proofs.Common.{if◌then◌else◌, refl, sym, ap, ◌∙◌, ⊎_elim, arith, ne_eqb, eq-eqb}
 
 -- the pins are those of the values
 owned_values : (n : ℕ) (clients : Clients) → all_owned n clients ≡ sum_by (λ x. owned n (Some x)) (values_of clients)
@@ -35,8 +26,7 @@ remove_none c ((k, x) ∷ es) none = ⊎_elim
     (λ here. absurd (let e : Some x ≡ None = sym (ap (λ b. cond b (Some x) (of_client es c)) here) ∙ none in cc))
     (λ past.
     let rest : of_client es c ≡ None = sym (ap (λ b. cond b (Some x) (of_client es c)) past) ∙ none in
-    ap (λ b. cond b es ((k, x) ∷ remove_entry (nat_eq c) es)) past ∙ ap (λ l. (k, x) ∷ l) (remove_none c es rest))
-    (cases_Bool (nat_eq c k))
+    ap (λ b. cond b es ((k, x) ∷ remove_entry (nat_eq c) es)) past ∙ ap (λ l. (k, x) ∷ l) (remove_none c es rest)) (cases_Bool (nat_eq c k))
 
 pub set_same : (c : ℕ) (clients : Clients) → set_client c (of_client clients c) clients ≡ clients
 set_same c clients = by (of_client clients c) refl
@@ -150,15 +140,20 @@ sets_same c old new is = record {
   order = is ∙ sym (set_same c old);
 }
 
--- what was lent of a client's transaction is given back
-pub written : {S : Type 0} (c : ℕ) (m n : HashMap ℕ TxnView S) (x y : TxnView) → of_client m.entries c ≡ Some x → WritesThrough nat_eq (nat_eq c) m y n
-    → Sets c (Some y) m.entries n.entries
-written c m n x y there h = sets_written c m.entries n.entries x y there h.0 (h.3 (ap is_some there)).0
+-- a client's transaction that was lent, and given back as it was left
+pub record Writes (c : ℕ) (old : Clients) (x y : TxnView) (new : Clients) : Type 0 where
+  pub there : of_client old c ≡ Some x
+  pub sets : Sets c (Some y) old new
+  -- where memory was short it is the same but for what it has in hand
+  pub alike : without_hand y ≡ without_hand x → without_hands new ≡ without_hands old
 
--- where memory was short it is the same but for what it has in hand
-pub lent_alike : {S : Type 0} (c : ℕ) (m n : HashMap ℕ TxnView S) (x y : TxnView) → of_client m.entries c ≡ Some x → WritesThrough nat_eq (nat_eq c) m y n
-    → without_hand y ≡ without_hand x → without_hands n.entries ≡ without_hands m.entries
-lent_alike c m n x y there h same = ap without_hands h.0 ∙ alike_set c m.entries x y there same
+pub written : {S : Type 0} (c : ℕ) (m n : HashMap ℕ TxnView S) (x y : TxnView) → of_client m.entries c ≡ Some x → WritesThrough nat_eq (nat_eq c) m y n
+    → Writes c m.entries x y n.entries
+written c m n x y there h = record {
+  there = there;
+  sets = sets_written c m.entries n.entries x y there h.0 (h.3 (ap is_some there)).0;
+  alike = λ same. ap without_hands h.0 ∙ alike_set c m.entries x y there same;
+}
 
 -- one is written and then taken out
 pub sets_then : (c : ℕ) (old mid new : Clients) (y : TxnView) → Sets c (Some y) old mid → Sets c None mid new → Sets c None old new

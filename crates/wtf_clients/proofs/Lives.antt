@@ -1,21 +1,18 @@
 -- The numbers that can be read: those that are pinned, and the number now.
-use Rattle.std.proofs.Common.{◌≡◌, ◌≤◌, ℕ, ◌+◌, Bool, true, false, ◌||◌, cond, nat_eq, count_by, List, [], Some, refl, ap, ◌⊎◌, inl, inr, ⊎_elim, arith}
-use Rattle.std.specs.Prelude.{IsTrue, if◌then◌else◌}
-use Rattle.std.specs.List.{list_any}
-use Rattle.std.proofs.lemmas.Bool.{cases_Bool, or_cases, eqb-true, eq-eqb}
-use Rattle.wtf_base.specs.declared.slice.Slice.{Slice}
-use Rattle.wtf_overlay.specs.Origin.{Place}
-use Rattle.wtf_kv.specs.Stores.{Store, is_pinned, is_live, times_pinned, IsPinnedOnceMore}
-use Rattle.wtf_kv.proofs.PinLaws.{any-count, count-any, count-push}
-use Rattle.wtf_values.specs.declared.key.Key.{Key}
-use Rattle.wtf_values.specs.declared.value.Value.{Value}
-use Rattle.wtf_meta.specs.Bytes.{MapBytes}
-use Rattle.wtf_replay.specs.Tried.{KeepsPins, MovesPin}
-use Rattle.wtf_gc.specs.Views.{RunView}
-use Rattle.wtf_clients.specs.Views.{BesideView, TablesView, metadata_now, watching}
-use Rattle.wtf_clients.specs.Sounds.{all_kept, all_seen, AreSound}
-use Rattle.wtf_clients.specs.Saves.{with_image, only_image, Saves}
-use Rattle.wtf_clients.specs.Named.{TablesBytes}
+use Rattle.wtf_clients.proofs.Common.{IsTrue, if◌then◌else◌, list_any, cases_Bool, or_cases, eqb-true, eq-eqb, Slice, Place, Store, is_pinned, is_live}
+use Rattle.wtf_clients.proofs.Common.{times_pinned, IsPinnedOnceMore, any-count, count-any, count-push, Key, Value, MapBytes, KeepsPins, MovesPin, RunView}
+use Rattle.wtf_clients.proofs.Common.{BesideView, TablesView, metadata_now, watching, all_kept, all_seen, AreSound, with_image, only_image, Saves, TablesBytes}
+use Rattle.wtf_clients.proofs.Common.{StoreKind, Dev, any_slice, stores, is_inside, ◌≡◌, ◌≤◌, ℕ, ◌+◌, Bool, true, false, ◌||◌, cond, nat_eq, count_by, List, []}
+use Rattle.wtf_clients.proofs.Common.{Some, refl, ap, ◌⊎◌, inl, inr, ⊎_elim, arith}
+use Rattle.wtf_clients.specs.declared.tables.Tables.TheInside.{Inside}
+
+-- the tables that the fields are
+abbrev pub tables_of : Inside → TablesView
+tables_of t = record { kv = t.kv; next_tx = t.next_tx; clients = t.clients.entries; beside = t.beside }
+
+-- what the tables name lies inside the devices
+abbrev pub AreInside : {S : Type 0} → StoreKind S → Dev S → TablesView → Type 0
+AreInside kind dev = TablesBytes (is_inside kind (stores dev) dev.settings) any_slice
 
 -- what is pinned can be read, and so can the number; and nothing else
 pub pinned_live : (kv : Store Key Value) (n : ℕ) → IsTrue (is_pinned kv n) → IsTrue (is_live kv n)
@@ -61,8 +58,7 @@ reaches old new most n pinned =
     (λ here. ap (λ b. b || is_pinned old n) here)
     (λ other.
     let none : ◌≡◌ {A = ℕ} (if nat_eq n old.number then 1 else 0) 0 = ap (λ b. cond b 1 0) other in
-    pinned_live old n (any-count n old.pins (omega (arith, some, le, none))))
-    (cases_Bool (nat_eq n old.number))
+    pinned_live old n (any-count n old.pins (omega (arith, some, le, none)))) (cases_Bool (nat_eq n old.number))
 
 -- each number is pinned as often
 pub same_reaches : (old new : Store Key Value) → KeepsPins old new → Reaches old new

@@ -1,51 +1,16 @@
 -- What the calls of a client's transaction make of the tables.
-use Rattle.std.proofs.Common.{◌≡◌, ℕ, ◌+◌, true, false, cond, nat_eq, List, [], ◌∷◌, ◌++◌, Option, None, Some, is_some, Result, Ok, IfOk, OnErr, IfSome}
-use Rattle.std.proofs.Common.{MatchOption, refl, sym, ap, subst, ◌∙◌, true≢false, ◌⊎◌, inl, inr, Err, slice_get, arith}
-use Rattle.std.specs.Option.{option_map}
-use Rattle.std.specs.Set.{remove_key}
-use Rattle.wtf_base.specs.declared.fault.Fault.{Fault}
-use Rattle.wtf_base.specs.declared.fault.Fault.TheVariants as fault
-use Rattle.wtf_base.specs.declared.memory.OutOfMemory.{OutOfMemory}
-use Rattle.wtf_kv.specs.Stores.{Store, IsPinnedOnceMore, times_pinned}
-use Rattle.wtf_values.specs.declared.key.Key.{Key}
-use Rattle.wtf_values.specs.declared.value.Value.{Value}
-use Rattle.wtf_model.specs.declared.answer.Answer.{Answer, Aborted'}
-use Rattle.wtf_model.specs.declared.answer.Answer.TheVariants as answer
-use Rattle.wtf_model.specs.declared.answer.Word.{Word}
-use Rattle.wtf_model.specs.declared.op.Op.{Op}
-use Rattle.wtf_model.specs.declared.event.Verb.TheVariants as verb
-use Rattle.wtf_model.specs.Tree.{Tree}
-use Rattle.wtf_model.specs.Transaction.{answers_of}
-use Rattle.wtf_model.specs.Lawful.{IsDone, IsReadFault, MayFail}
-use Rattle.wtf_meta.specs.Contents.{Told}
-use Rattle.wtf_meta.specs.Maps.{metadata_at, seen}
-use Rattle.wtf_meta.specs.Trees.{Stands}
-use Rattle.wtf_meta.specs.Calls.{cap_for}
-use Rattle.wtf_dev.specs.Store.{StoreKind}
-use Rattle.wtf_ring.specs.Points.{IsRing}
-use Rattle.wtf_region.specs.declared.dev.Dev.{Dev}
-use Rattle.wtf_region.specs.Devs.{GoesOn, between}
-use Rattle.wtf_steps.specs.Faults.{MayStandFor}
-use Rattle.wtf_replay.specs.Views.{TxnView, begun, hand_of}
-use Rattle.wtf_replay.specs.Refusals.{call_refusal, try_refusal, step_refusal, unmade}
-use Rattle.wtf_replay.specs.Fits.{IsFit}
-use Rattle.wtf_replay.specs.Sounds.{LogStands, caller_at}
-use Rattle.wtf_replay.specs.Causes.{fault_answer, MayFaultAt, MayEndFault}
-use Rattle.wtf_replay.specs.Tried.{IsAttempted, KeepsMaps, KeepsPins, commit_from}
-use Rattle.wtf_replay.specs.Installs.{IsInstall}
-use Rattle.wtf_replay.specs.Replays.{IsStepped, IsEnded, IsTrueAttempt, IsTrueStep, IsTrueEnd}
-use Rattle.wtf_replay.specs.Verbs.{Turn, turn, CallOf, StepOf, CommitOf, ActsAgain}
-use Rattle.wtf_replay.proofs.Keeping.{fit_after}
-use Rattle.wtf_clients.specs.Views.{Clients, TablesView, of_client, metadata_now}
-use Rattle.wtf_clients.specs.Sounds.{owned, IsOpen, AreSound, Sets}
-use Rattle.wtf_clients.specs.Asked.{lent_by}
-use Rattle.wtf_clients.specs.Seeing.{Seeing, seeing}
-use Rattle.wtf_clients.specs.Turns.{Refuses, Begins, Ends, Tries, TryTurn, TablesStay, ListsAreTold, ReadsLists, Calls, CallFails, StepTurn, Finals, ClientTurn}
-use Rattle.wtf_clients.proofs.Lists.{sets_added, sets_same, sets_then}
-use Rattle.wtf_clients.proofs.Frames.{sound_turned}
-use Rattle.wtf_clients.proofs.Known.{lent_to, knows, knows_redone, knows_install, starts_sound, starts_now}
-use Rattle.wtf_clients.proofs.Lacking.{memory_none}
-use Rattle.wtf_clients.proofs.Staying.{fault_is, same_stays}
+use Rattle.wtf_clients.proofs.Common.{option_map, remove_key, Fault, OutOfMemory, Store, IsPinnedOnceMore, times_pinned, Key, Value, Answer, Aborted', Word, Op}
+use Rattle.wtf_clients.proofs.Common.{Verb, Tree, answers_of, IsDone, IsReadFault, MayFail, Told, metadata_at, seen, Stands, cap_for, StoreKind, IsRing, Dev}
+use Rattle.wtf_clients.proofs.Common.{GoesOn, between, MayStandFor, TxnView, begun, hand_of, call_refusal, try_refusal, step_refusal, unmade, IsFit, LogStands}
+use Rattle.wtf_clients.proofs.Common.{caller_at, fault_answer, MayFaultAt, MayEndFault, IsAttempted, KeepsMaps, KeepsPins, commit_from, IsInstall, IsStepped}
+use Rattle.wtf_clients.proofs.Common.{IsEnded, IsTrueAttempt, IsTrueStep, IsTrueEnd, Turn, turn, CallOf, StepOf, CommitOf, ActsAgain, fit_after, Clients}
+use Rattle.wtf_clients.proofs.Common.{TablesView, of_client, metadata_now, owned, IsOpen, AreSound, Sets, lent_by, Seeing, seeing, Refuses, Begins, Ends, Tries}
+use Rattle.wtf_clients.proofs.Common.{TryTurn, TablesStay, ListsAreTold, ReadsLists, CallFails, StepTurn, Finals, ClientTurn, ◌≡◌, ℕ, ◌+◌, true, false, cond}
+use Rattle.wtf_clients.proofs.Common.{nat_eq, List, [], ◌∷◌, ◌++◌, Option, None, Some, is_some, Result, Ok, IfOk, OnErr, IfSome, MatchOption, refl, sym, ap}
+use Rattle.wtf_clients.proofs.Common.{subst, ◌∙◌, true≢false, ◌⊎◌, inl, inr, Err, slice_get, arith}
+use Rattle.wtf_clients.specs.Turns.{Calls}
+use Rattle.wtf_clients.proofs.{Lists.sets_added, Lists.sets_same, Lists.sets_then, Lists.Writes, Known.lent_to, Known.knows, Known.starts_now, Staying.fault_is}
+use Rattle.wtf_clients.proofs.{Frames.sound_turned, Known.knows_redone, Known.knows_install, Known.starts_sound, Lacking.memory_none, Staying.same_stays}
 
 -- a match on an option that is known
 pub at_none : {A : Type 0} (o : Option A) (P : Type 0) (Q : A → Type 0) → o ≡ None → P → MatchOption o P Q
@@ -86,50 +51,43 @@ on_err (Ok a) Q h = tt
 on_err (Err e) Q h = h
 
 -- ---- what holds over every device goes on holding
-pub kept_sound : (old : TablesView) (kv : Store Key Value) (clients : Clients) (c : ℕ) (x y : TxnView) → AreSound old → of_client old.clients c ≡ Some x
-    → Sets c (Some y) old.clients clients → y ≡ x → KeepsMaps old.kv kv → KeepsPins old.kv kv → kv.number ≡ old.kv.number
-    → AreSound (record { kv = kv; next_tx = old.next_tx; clients = clients; beside = old.beside })
-kept_sound old kv clients c x y sound there sets same maps pins number =
-    let open_one = sound.each c x there in
+pub kept_sound : (old : TablesView) (kv : Store Key Value) (clients : Clients) (c : ℕ) (x y : TxnView) → AreSound old
+    → Writes c old.clients x y clients → y ≡ x → KeepsMaps old.kv kv → KeepsPins old.kv kv → kv.number ≡ old.kv.number
+    → AreSound (record old { kv = kv; clients = clients })
+kept_sound old kv clients c x y sound writes same maps pins number =
+    let open_one = sound.each c x writes.there in
     let based = open_one.based in
-    let stays : Sets c (Some x) old.clients clients = subst (λ z. Sets c (Some z) old.clients clients) same sets in
+    let stays : Sets c (Some x) old.clients clients = subst (λ z. Sets c (Some z) old.clients clients) same writes.sets in
     let own : IsOpen kv old.next_tx x = record {
       going = open_one.going;
       fit = fit_after old.kv kv x x open_one.fit refl refl refl based maps pins;
       based = omega (arith, based, number);
       older = open_one.older;
     } in
-    sound_turned old (record { kv = kv; next_tx = old.next_tx; clients = clients; beside = old.beside }) c (Some x) sound (record {
+    sound_turned old (record old { kv = kv; clients = clients }) c (Some x) sound (record {
       sets = stays;
       later = omega (arith, number);
       maps = maps;
       more = omega arith;
-      pins = λ n. let kept = pins n in let had : owned n (of_client old.clients c) ≡ owned n (Some x) = ap (owned n) there in omega (arith, kept, had);
+      pins = λ n. let kept = pins n in let had : owned n (of_client old.clients c) ≡ owned n (Some x) = ap (owned n) writes.there in omega (arith, kept, had);
       beside = refl;
       own = λ z is. subst (λ w. IsOpen kv old.next_tx w) (let e : x ≡ z = cc in e) own;
-      whose = λ z is. inr (x, there, (let e : x ≡ z = cc in ap (λ (w : TxnView). w.tx) (sym e)));
+      whose = λ z is. inr (x, writes.there, (let e : x ≡ z = cc in ap (λ (w : TxnView). w.tx) (sym e)));
     })
 
 -- ---- a refusal of the transaction leaves all
 refuses : (old new : TablesView) (c : ℕ) (x y : TxnView) (w : Word) (a : Answer) → of_client old.clients c ≡ Some x → Sets c (Some y) old.clients new.clients
-    → y ≡ x → new.kv ≡ old.kv → new.next_tx ≡ old.next_tx → new.beside ≡ old.beside → a ≡ answer.Refused w → Refuses old new c w a
+    → y ≡ x → new.kv ≡ old.kv → new.next_tx ≡ old.next_tx → new.beside ≡ old.beside → a ≡ Answer.Refused w → Refuses old new c w a
 refuses old new c x y w a there sets same kv next beside is = record {
   answer = is;
-  keeps = record {
-    clients = subst (λ o. Sets c o old.clients new.clients) (ap Some same ∙ sym there) sets;
-    kv = kv;
-    next_tx = next;
-    beside = beside;
-  };
+  keeps = record { clients = subst (λ o. Sets c o old.clients new.clients) (ap Some same ∙ sym there) sets; kv = kv; next_tx = next; beside = beside };
 }
 
 -- and so does one of a client that has none, or has one already
 pub refused_same : (old : TablesView) (clients : Clients) (c : ℕ) (w : Word) → clients ≡ old.clients
-    → Refuses old (record { kv = old.kv; next_tx = old.next_tx; clients = clients; beside = old.beside }) c w (answer.Refused w)
-refused_same old clients c w is = record {
-  answer = refl;
-  keeps = record { clients = sets_same c old.clients clients is; kv = refl; next_tx = refl; beside = refl };
-}
+    → Refuses old (record old { clients = clients }) c w (Answer.Refused w)
+refused_same old clients c w is =
+    record { answer = refl; keeps = record { clients = sets_same c old.clients clients is; kv = refl; next_tx = refl; beside = refl } }
 
 -- ---- a transaction begins
 pub begins : (old : TablesView) (kv : Store Key Value) (mid clients : Clients) (c number : ℕ) (x : TxnView) → of_client old.clients c ≡ None
@@ -137,12 +95,12 @@ pub begins : (old : TablesView) (kv : Store Key Value) (mid clients : Clients) (
     → ((q : ℕ) → of_client clients q ≡ cond (nat_eq c q) (Some x) (of_client mid q)) → x ≡ begun old.next_tx old.kv.number
     → kv ≡ record old.kv { pins = old.kv.pins ++ old.kv.number ∷ [] } → IsPinnedOnceMore old.kv.number old.kv kv → IsFit kv x
     → ((size : ℕ) (told : Told) → LogStands size kv told x [])
-    → Begins old (record { kv = kv; next_tx = old.next_tx + 1; clients = clients; beside = old.beside }) c (answer.Begun number)
+    → Begins old (record { kv = kv; next_tx = old.next_tx + 1; clients = clients; beside = old.beside }) c (Answer.Begun number)
 begins old kv mid clients c number x none is_number is_mid last seen is_x is_kv pinned fit sound =
     let none_mid : of_client mid c ≡ None = ap (λ l. of_client l c) is_mid ∙ none in
     let sets : Sets c (Some x) mid clients = sets_added c mid clients x none_mid (last none_mid) seen in
     record {
-      answer = ap answer.Begun is_number;
+      answer = ap Answer.Begun is_number;
       clients = subst (λ l. Sets c (Some (begun old.next_tx old.kv.number)) l clients) is_mid (subst (λ q. Sets c (Some q) mid clients) is_x sets);
       kv = is_kv;
       pinned = pinned;
@@ -155,11 +113,11 @@ begins old kv mid clients c number x none is_number is_mid last seen is_x is_kv 
 -- a fault that may stand for an answer is allowed in its place
 pub stand_fail : (servers : ℕ) (o : Op (List ℕ)) (d : Answer) (why : Fault) (a : Answer) → fault_answer why ≡ Some a → MayStandFor servers o d why
     → MayFail servers o d a
-stand_fail servers o d (fault.Read k) a is h = subst (MayFail servers o d) (let e : answer.FaultRead k.0 ≡ a = cc in e) h
-stand_fail servers o d fault.Write a is h = subst (MayFail servers o d) (let e : answer.FaultWrite ≡ a = cc in e) h
-stand_fail servers o d (fault.Punch k) a is h = subst (MayFail servers o d) (let e : answer.FaultPunch k.0 ≡ a = cc in e) h
-stand_fail servers o d (fault.Damaged k) a is h = subst (MayFail servers o d) (let e : answer.Damaged k.0 ≡ a = cc in e) h
-stand_fail servers o d fault.Memory a is h = absurd (let e : None ≡ Some a = is in cc)
+stand_fail servers o d (Fault.Read k) a is h = subst (MayFail servers o d) (let e : Answer.FaultRead k.0 ≡ a = cc in e) h
+stand_fail servers o d Fault.Write a is h = subst (MayFail servers o d) (let e : Answer.FaultWrite ≡ a = cc in e) h
+stand_fail servers o d (Fault.Punch k) a is h = subst (MayFail servers o d) (let e : Answer.FaultPunch k.0 ≡ a = cc in e) h
+stand_fail servers o d (Fault.Damaged k) a is h = subst (MayFail servers o d) (let e : Answer.Damaged k.0 ≡ a = cc in e) h
+stand_fail servers o d Fault.Memory a is h = absurd (let e : None ≡ Some a = is in cc)
 
 pub step_left : (servers : ℕ) (answers : List Answer) (k : ℕ) (why : Fault) (a : Answer) → fault_answer why ≡ Some a
     → MayFaultAt servers answers k (fault_answer why) → IsDone (slice_get answers k) × IsReadFault servers a
@@ -170,44 +128,43 @@ commit_left servers why a is h = subst (MayEndFault servers) is h
 
 -- a step after which the transaction has ended left its base
 over_by : (x y : TxnView) (a : Answer) → x.ended ≡ false → IsStepped x y a → y.ended ≡ true → y.at.base ≡ x.at.base
-over_by x y (answer.Replayed i) going h over = h.base
+over_by x y (Answer.Replayed i) going h over = h.base
 over_by x y (Aborted' i box a) going h over = h.over.base
 over_by x y a going h over = absurd h
 
 -- ---- the transaction goes: its client has none, and one pin of its base is undone
 pub ends : (old new : TablesView) (kv : Store Key Value) (mid : Clients) (c : ℕ) (x y : TxnView) → Sets c (Some y) old.clients mid → Sets c None mid new.clients
-    → new.next_tx ≡ old.next_tx → new.beside ≡ old.beside
-    → y.at.base ≡ x.at.base → KeepsMaps old.kv kv → KeepsPins old.kv kv → new.kv ≡ record kv { pins = remove_key (nat_eq y.at.base) kv.pins }
-    → IsPinnedOnceMore y.at.base new.kv kv
-    → Ends old new kv c x
+    → new.next_tx ≡ old.next_tx → new.beside ≡ old.beside → y.at.base ≡ x.at.base → KeepsMaps old.kv kv → KeepsPins old.kv kv
+    → IfSome (of_client mid c) (λ q. new.kv ≡ record kv { pins = remove_key (nat_eq q.at.base) kv.pins })
+    → IfSome (of_client mid c) (λ q. IsPinnedOnceMore q.at.base new.kv kv) → Ends old new kv c x
 ends old new kv mid c x y first last next beside base maps pins is_kv unpinned = record {
   clients = sets_then c old.clients mid new.clients y first last;
   next_tx = next;
   beside = beside;
   maps = maps;
   pins = pins;
-  kv = subst (λ n. new.kv ≡ record kv { pins = remove_key (nat_eq n) kv.pins }) base is_kv;
-  unpinned = subst (λ n. IsPinnedOnceMore n new.kv kv) base unpinned;
+  kv = subst (λ n. new.kv ≡ record kv { pins = remove_key (nat_eq n) kv.pins }) base
+      (subst (λ o. IfSome o (λ q. new.kv ≡ record kv { pins = remove_key (nat_eq q.at.base) kv.pins })) first.is is_kv);
+  unpinned = subst (λ n. IsPinnedOnceMore n new.kv kv) base (subst (λ o. IfSome o (λ q. IsPinnedOnceMore q.at.base new.kv kv)) first.is unpinned);
 }
 
 -- a verb that was refused leaves the transaction, and what it was lent
 pub refusal_of : (E : Type 0) {D : Type 0} (old new : TxnView) (before after : D) (r : Option Word) (w : Word) (a : Answer) → r ≡ Some w
-    → IfSome r (λ v. (answered E a (answer.Refused v)) × (new ≡ old) × (after ≡ before)) → (a ≡ answer.Refused w) × (new ≡ old) × (after ≡ before)
+    → IfSome r (λ v. (answered E a (Answer.Refused v)) × (new ≡ old) × (after ≡ before)) → (a ≡ Answer.Refused w) × (new ≡ old) × (after ≡ before)
 refusal_of E old new before after r w a is stopped =
-    let all : (answered E a (answer.Refused w)) × (new ≡ old) × (after ≡ before) =
-    subst (λ m. IfSome m (λ v. (answered E a (answer.Refused v)) × (new ≡ old) × (after ≡ before))) is stopped in
-    (same_answer E a (answer.Refused w) all.0, all.1, all.2)
+    let all : (answered E a (Answer.Refused w)) × (new ≡ old) × (after ≡ before) =
+    subst (λ m. IfSome m (λ v. (answered E a (Answer.Refused v)) × (new ≡ old) × (after ≡ before))) is stopped in
+    (same_answer E a (Answer.Refused w) all.0, all.1, all.2)
 
 -- so one that failed was not refused
 pub not_refused : {D : Type 0} (old new : TxnView) (before after : D) (r : Option Word) (why : Fault)
-    → IfSome r (λ v. (failed why (answer.Refused v)) × (new ≡ old) × (after ≡ before)) → r ≡ None
+    → IfSome r (λ v. (failed why (Answer.Refused v)) × (new ≡ old) × (after ≡ before)) → r ≡ None
 not_refused old new before after None why h = refl
-not_refused old new before after (Some w) why h = absurd (never why (answer.Refused w) h.0)
+not_refused old new before after (Some w) why h = absurd (never why (Answer.Refused w) h.0)
 
 -- what is said of a call's answer, where it is refused
-pub as_words : {D : Type 0} (old new : TxnView) (before after : D) (r : Result Answer Fault) (o : Option Word)
-    → IfSome (option_map answer.Refused o) (λ a. (r ≡ Ok a) × (new ≡ old) × (after ≡ before))
-    → IfSome o (λ w. (r ≡ Ok (answer.Refused w)) × (new ≡ old) × (after ≡ before))
+pub as_words : {D : Type 0} (old new : TxnView) (before after : D) (r : Result Answer Fault) (o : Option Word) → IfSome (option_map Answer.Refused o)
+    (λ a. (r ≡ Ok a) × (new ≡ old) × (after ≡ before)) → IfSome o (λ w. (r ≡ Ok (Answer.Refused w)) × (new ≡ old) × (after ≡ before))
 as_words old new before after r None h = tt
 as_words old new before after r (Some w) h = h
 
@@ -222,7 +179,7 @@ module _ {S : Type 0} (kind : StoreKind S) (dev new : Dev S) (ring : IsRing dev.
 
   -- the transaction is another, and all else as it was
   abbrev now_set : TablesView
-  now_set = record { kv = old.kv; next_tx = old.next_tx; clients = clients; beside = old.beside }
+  now_set = record old { clients = clients }
 
   same_now : y ≡ x → TablesStay old now_set c
   same_now same = same_stays old now_set c x y there sets same refl (λ n le. refl) (λ q. refl) (λ n. refl) refl refl
@@ -231,7 +188,7 @@ module _ {S : Type 0} (kind : StoreKind S) (dev new : Dev S) (ring : IsRing dev.
   calls_by : (o : Op (List ℕ)) (a : Answer) → CallOf (verb_of old.kv) o (Ok a) → (r : Option Word) → call_refusal x ≡ r
       → MatchOption r (Calls z old now_set c x o a ⊎ CallFails z old now_set c x o a) (λ w. Refuses old now_set c w a)
   calls_by o a did None is =
-      let free : unmade x ≡ None = ap (option_map answer.Refused) is in
+      let free : unmade x ≡ None = ap (option_map Answer.Refused) is in
       let made = did.made free in
       inl (record {
         later_one = y;
@@ -250,12 +207,12 @@ module _ {S : Type 0} (kind : StoreKind S) (dev new : Dev S) (ring : IsRing dev.
       let all = refusal_of Fault x y dev new (call_refusal x) w a is (as_words x y dev new (Ok a) (call_refusal x) did.instead) in
       refuses old now_set c x y w a there sets all.1 refl refl refl all.0
 
-  pub call_turn : (o : Op (List ℕ)) (a : Answer) → CallOf (verb_of old.kv) o (Ok a) → ClientTurn z old now_set c (verb.Call o) a
+  pub call_turn : (o : Op (List ℕ)) (a : Answer) → CallOf (verb_of old.kv) o (Ok a) → ClientTurn z old now_set c (Verb.Call o) a
   call_turn o a did = at_some (of_client old.clients c) x _ _ there (calls_by o a did (call_refusal x) refl)
 
   -- one that failed
   pub call_failed : (o : Op (List ℕ)) (why : Fault) (a : Answer) → fault_answer why ≡ Some a → CallOf (verb_of old.kv) o (Err why)
-      → ClientTurn z old now_set c (verb.Call o) a
+      → ClientTurn z old now_set c (Verb.Call o) a
   call_failed o why a is did =
       at_some (of_client old.clients c) x _ _ there (at_none (call_refusal x) _ _
       (not_refused x y dev new (call_refusal x) why (as_words x y dev new (Err why) (call_refusal x) did.instead)) (inr (record {
@@ -266,9 +223,8 @@ module _ {S : Type 0} (kind : StoreKind S) (dev new : Dev S) (ring : IsRing dev.
   -- ---- a step
   goes_by_step : (b : Answer) → y.ended ≡ false → IsStepped x y b → ActsAgain (verb_of old.kv) b → GoesOn kind dev new [] → IsFit old.kv y
       → (ListsAreTold z old (metadata_at old.kv x.at.base) → (ops : List (Op (List ℕ))) → LogStands z.size old.kv z.told x ops
-      → IsTrueStep z.size (z.told, z.later) old.kv (x, y) ops b)
-      → StepTurn z old now_set c x b
-  goes_by_step (answer.Replayed i) still h acts goes fit m = record {
+      → IsTrueStep z.size (z.told, z.later) old.kv (x, y) ops b) → StepTurn z old now_set c x b
+  goes_by_step (Answer.Replayed i) still h acts goes fit m = record {
     later_one = y;
     keeps = record { clients = sets; kv = refl; next_tx = refl; beside = refl };
     replayed = h;
@@ -292,20 +248,19 @@ module _ {S : Type 0} (kind : StoreKind S) (dev new : Dev S) (ring : IsRing dev.
       let all = refusal_of Fault x y dev new (step_refusal x) w a is did.refused in
       refuses old now_set c x y w a there sets all.1 refl refl refl all.0
 
-  pub step_goes : (a : Answer) → StepOf (verb_of old.kv) (Ok a) → y.ended ≡ false → ClientTurn z old now_set c verb.Step a
+  pub step_goes : (a : Answer) → StepOf (verb_of old.kv) (Ok a) → y.ended ≡ false → ClientTurn z old now_set c Verb.Step a
   step_goes a did still = at_some (of_client old.clients c) x _ _ there (steps_by a did still (step_refusal x) refl)
 
   -- one that failed
-  pub step_failed : (why : Fault) (a : Answer) → fault_answer why ≡ Some a → StepOf (verb_of old.kv) (Err why) → ClientTurn z old now_set c verb.Step a
+  pub step_failed : (why : Fault) (a : Answer) → fault_answer why ≡ Some a → StepOf (verb_of old.kv) (Err why) → ClientTurn z old now_set c Verb.Step a
   step_failed why a is did =
       at_some (of_client old.clients c) x _ _ there (at_none (step_refusal x) _ _ (not_refused x y dev new (step_refusal x) why did.refused)
       (by a is (λ ops run t st. step_left dev.settings.servers _ x.replayed why a is (did.due ops run t st))))
     where
       by : (b : Answer) → fault_answer why ≡ Some b
           → ((ops : List (Op (List ℕ))) → LogStands z.size old.kv z.told x ops → (t : Tree) → Stands z.size z.told x.tx 0 (metadata_at old.kv x.at.base) t
-          → IsDone (slice_get (answers_of (cap_for (caller_at z.size x.tx 0)) t ops) x.replayed) × IsReadFault z.servers b)
-          → StepTurn z old now_set c x b
-      by (answer.Replayed i) e f = absurd (fault_is why (answer.Replayed i) e)
+          → IsDone (slice_get (answers_of (cap_for (caller_at z.size x.tx 0)) t ops) x.replayed) × IsReadFault z.servers b) → StepTurn z old now_set c x b
+      by (Answer.Replayed i) e f = absurd (fault_is why (Answer.Replayed i) e)
       by (Aborted' i box b) e f = absurd (fault_is why (Aborted' i box b) e)
       by b e f = record { fails = record { why = why; answer = e; stays = same_now did.err }; may = f }
 
@@ -315,17 +270,13 @@ module _ {S : Type 0} (kind : StoreKind S) (dev new : Dev S) (ring : IsRing dev.
       (is_kv : IfSome (of_client clients c) (λ q. after.kv ≡ record kv { pins = remove_key (nat_eq q.at.base) kv.pins }))
       (unpinned : IfSome (of_client clients c) (λ q. IsPinnedOnceMore q.at.base after.kv kv)) where
     gone : y.at.base ≡ x.at.base → KeepsMaps old.kv kv → KeepsPins old.kv kv → Ends old after kv c x
-    gone base maps pins =
-        ends old after kv clients c x y sets taken next beside base maps pins
-        (subst (λ o. IfSome o (λ q. after.kv ≡ record kv { pins = remove_key (nat_eq q.at.base) kv.pins })) sets.is is_kv)
-        (subst (λ o. IfSome o (λ q. IsPinnedOnceMore q.at.base after.kv kv)) sets.is unpinned)
+    gone base maps pins = ends old after kv clients c x y sets taken next beside base maps pins is_kv unpinned
 
     -- by a step
     ends_by_step : (b : Answer) → kv ≡ old.kv → x.ended ≡ false → y.ended ≡ true → IsStepped x y b
         → (ListsAreTold z old (metadata_at old.kv x.at.base) → (ops : List (Op (List ℕ))) → LogStands z.size old.kv z.told x ops
-        → IsTrueStep z.size (z.told, z.later) old.kv (x, y) ops b)
-        → StepTurn z old after c x b
-    ends_by_step (answer.Replayed i) same going over h m = absurd (true≢false (sym over ∙ ap (λ (q : TxnView). q.ended) h.is ∙ going))
+        → IsTrueStep z.size (z.told, z.later) old.kv (x, y) ops b) → StepTurn z old after c x b
+    ends_by_step (Answer.Replayed i) same going over h m = absurd (true≢false (sym over ∙ ap (λ (q : TxnView). q.ended) h.is ∙ going))
     ends_by_step (Aborted' i box b) same going over h m = record {
       index = h.index;
       ends = subst (λ s. Ends old after s c x) same
@@ -341,7 +292,7 @@ module _ {S : Type 0} (kind : StoreKind S) (dev new : Dev S) (ring : IsRing dev.
         let all = refusal_of Fault x y dev new (step_refusal x) w a is did.refused in
         absurd (true≢false (sym over ∙ ap (λ (q : TxnView). q.ended) all.1 ∙ going))
 
-    pub step_ends : (a : Answer) → kv ≡ old.kv → x.ended ≡ false → StepOf (verb_of old.kv) (Ok a) → y.ended ≡ true → ClientTurn z old after c verb.Step a
+    pub step_ends : (a : Answer) → kv ≡ old.kv → x.ended ≡ false → StepOf (verb_of old.kv) (Ok a) → y.ended ≡ true → ClientTurn z old after c Verb.Step a
     step_ends a same going did over = at_some (of_client old.clients c) x _ _ there (steps_over a same going did over (step_refusal x) refl)
 
     -- the base is what it was, so the transaction has gone as each does
@@ -360,11 +311,11 @@ module _ {S : Type 0} (kind : StoreKind S) (dev new : Dev S) (ring : IsRing dev.
     commit_by : (a : Answer) → Ends old after kv c x → IsEnded old.kv kv a → IsInstall (ReadsLists z) old.kv kv (commit_from old.kv x) a
         → (ListsAreTold z old (metadata_at old.kv x.at.base) → ListsAreTold z old (metadata_now old.kv)
         → (ops : List (Op (List ℕ))) → LogStands z.size old.kv z.told x ops → IsTrueEnd z.size (z.told, z.later) old.kv kv x ops a) → Finals z old after c x a
-    commit_by (answer.Committed n) over h i m = record { mid = kv; next = h.0; number = h.1; installs = i; ends = over; final = m }
+    commit_by (Answer.Committed n) over h i m = record { mid = kv; next = h.0; number = h.1; installs = i; ends = over; final = m }
     commit_by (Aborted' k box b) over h i m = record { mid = kv; number = h; versions = i; ends = over; deviates = m }
     commit_by b over h i m = absurd h
 
-    pub commit_turn : (a : Answer) → CommitOf (verb_of kv) (Ok a) → ClientTurn z old after c verb.Commit a
+    pub commit_turn : (a : Answer) → CommitOf (verb_of kv) (Ok a) → ClientTurn z old after c Verb.Commit a
     commit_turn a did =
         at_some (of_client old.clients c) x _ _ there (commit_by a (commit_gone a did) did.ended
         (knows_install kind dev new did.dev old.kv kv (commit_from old.kv x) a did.installs)
@@ -373,12 +324,12 @@ module _ {S : Type 0} (kind : StoreKind S) (dev new : Dev S) (ring : IsRing dev.
   -- one that failed
   module _ (kv : Store Key Value) (why : Fault) (did : CommitOf (verb_of kv) (Err why)) where
     abbrev after_commit : TablesView
-    after_commit = record { kv = kv; next_tx = old.next_tx; clients = clients; beside = old.beside }
+    after_commit = record old { kv = kv; clients = clients }
 
     pub commit_stays : TablesStay old after_commit c
     commit_stays = same_stays old after_commit c x y there sets did.err did.err_store.0 did.maps did.err_store.1 did.pins refl refl
 
-    pub commit_failed : (a : Answer) → fault_answer why ≡ Some a → ClientTurn z old after_commit c verb.Commit a
+    pub commit_failed : (a : Answer) → fault_answer why ≡ Some a → ClientTurn z old after_commit c Verb.Commit a
     commit_failed a is = at_some (of_client old.clients c) x _ _ there (by a is (λ tells now ops run t st. commit_left dev.settings.servers why a is
         (did.due ops (starts_now kind dev tells.0 old tells.1 new kv c x y ops there tells.2 run now.2) t st)))
       where
@@ -386,28 +337,27 @@ module _ {S : Type 0} (kind : StoreKind S) (dev new : Dev S) (ring : IsRing dev.
             → (ListsAreTold z old (metadata_at old.kv x.at.base) → ListsAreTold z old (metadata_now old.kv) → (ops : List (Op (List ℕ)))
             → LogStands z.size old.kv z.told x ops → (t : Tree) → Stands z.size z.told x.tx 0 (metadata_now old.kv) t → IsReadFault z.servers b)
             → Finals z old after_commit c x b
-        by (answer.Committed n) e f = absurd (fault_is why (answer.Committed n) e)
+        by (Answer.Committed n) e f = absurd (fault_is why (Answer.Committed n) e)
         by (Aborted' i box b) e f = absurd (fault_is why (Aborted' i box b) e)
         by b e f = record { fails = record { why = why; answer = e; stays = commit_stays }; may = f }
 
 -- ---- an attempt
 module _ (old : TablesView) (kv : Store Key Value) (mid : Clients) (c : ℕ) (x y : TxnView) (a : Answer) (going : x.ended ≡ false)
-    (there : of_client old.clients c ≡ Some x) (sets : Sets c (Some y) old.clients mid)
-    (stopped : IfSome (try_refusal x) (λ w. (answered OutOfMemory a (answer.Refused w)) × (y ≡ x) × (kv ≡ old.kv)))
+    (writes : Writes c old.clients x y mid) (stopped : IfSome (try_refusal x) (λ w. (answered OutOfMemory a (Answer.Refused w)) × (y ≡ x) × (kv ≡ old.kv)))
     (tried : try_refusal x ≡ None → IsAttempted old.kv kv x y a)
     (meaning : try_refusal x ≡ None → (size : ℕ) (told : Told) (ops : List (Op (List ℕ))) → LogStands size old.kv told x ops
     → IsTrueAttempt size told old.kv kv (x, y) ops a)
     (maps : KeepsMaps old.kv kv) (fit : IsFit kv y) where
   abbrev now_tried : TablesView
-  now_tried = record { kv = kv; next_tx = old.next_tx; clients = mid; beside = old.beside }
+  now_tried = record old { kv = kv; clients = mid }
 
   goes_by : (b : Answer) → y.ended ≡ false → IsAttempted old.kv kv x y b
       → ((size : ℕ) (told : Told) (ops : List (Op (List ℕ))) → LogStands size old.kv told x ops → IsTrueAttempt size told old.kv kv (x, y) ops b)
       → Tries old now_tried c x b
-  goes_by (answer.Committed n) still h m = absurd (true≢false (sym (ap (λ (z : TxnView). z.ended) h.is) ∙ still))
-  goes_by (answer.Retry b n) still h m = record {
+  goes_by (Answer.Committed n) still h m = absurd (true≢false (sym (ap (λ (z : TxnView). z.ended) h.is) ∙ still))
+  goes_by (Answer.Retry b n) still h m = record {
     later = y;
-    clients = sets;
+    clients = writes.sets;
     next_tx = refl;
     beside = refl;
     retried = h;
@@ -421,25 +371,26 @@ module _ (old : TablesView) (kv : Store Key Value) (mid : Clients) (c : ℕ) (x 
   goes_on None is still = goes_by a still (tried is) (meaning is)
   goes_on (Some w) is still =
       let all = refusal_of OutOfMemory x y old.kv kv (try_refusal x) w a is stopped in
-      refuses old now_tried c x y w a there sets all.1 all.2 refl refl all.0
+      refuses old now_tried c x y w a writes.there writes.sets all.1 all.2 refl refl all.0
 
-  pub try_goes : y.ended ≡ false → TryTurn old (record { kv = kv; next_tx = old.next_tx; clients = mid; beside = old.beside }) c x a
+  pub try_goes : y.ended ≡ false → TryTurn old (record old { kv = kv; clients = mid }) c x a
   try_goes still = goes_on (try_refusal x) refl still
 
   module _ (new : TablesView) (taken : Sets c None mid new.clients) (next : new.next_tx ≡ old.next_tx) (beside : new.beside ≡ old.beside)
-      (is_kv : new.kv ≡ record kv { pins = remove_key (nat_eq y.at.base) kv.pins }) (unpinned : IsPinnedOnceMore y.at.base new.kv kv) where
+      (is_kv : IfSome (of_client mid c) (λ q. new.kv ≡ record kv { pins = remove_key (nat_eq q.at.base) kv.pins }))
+      (unpinned : IfSome (of_client mid c) (λ q. IsPinnedOnceMore q.at.base new.kv kv)) where
     ends_by : (b : Answer) → y.ended ≡ true → IsAttempted old.kv kv x y b
         → ((size : ℕ) (told : Told) (ops : List (Op (List ℕ))) → LogStands size old.kv told x ops → IsTrueAttempt size told old.kv kv (x, y) ops b)
         → Tries old new c x b
-    ends_by (answer.Committed n) over h m = record {
+    ends_by (Answer.Committed n) over h m = record {
       mid = kv;
       ended = y;
       committed = h;
       final = m;
-      ends = ends old new kv mid c x y sets taken next beside (ap (λ (z : TxnView). z.at.base) h.is) maps
+      ends = ends old new kv mid c x y writes.sets taken next beside (ap (λ (z : TxnView). z.at.base) h.is) maps
           (λ k. ap (λ l. times_pinned (record kv { pins = l }) k) h.pins) is_kv unpinned;
     }
-    ends_by (answer.Retry b n) over h m = absurd (true≢false (sym over ∙ ap (λ (z : TxnView). z.ended) h.is ∙ going))
+    ends_by (Answer.Retry b n) over h m = absurd (true≢false (sym over ∙ ap (λ (z : TxnView). z.ended) h.is ∙ going))
     ends_by b over h m = absurd h
 
     ends_on : (r : Option Word) → try_refusal x ≡ r → y.ended ≡ true → MatchOption r (Tries old new c x a) (λ w. Refuses old new c w a)

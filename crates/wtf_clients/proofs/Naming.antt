@@ -1,48 +1,24 @@
 -- What holds of the places of each byte that the tables name goes on holding.
-use Rattle.std.proofs.Common.{◌≡◌, ◌≤◌, ℕ, Bool, List, [], length, Option, None, Some, sym, ap, ◌∙◌, subst, ⊎_elim, arith}
-use Rattle.std.specs.Prelude.{IsTrue}
-use Rattle.wtf_base.specs.declared.settings.Settings.{Settings}
-use Rattle.wtf_base.specs.declared.slice.Slice.{Slice}
-use Rattle.wtf_dev.specs.Each.{EachFollows}
-use Rattle.wtf_dev.specs.Store.{StoreKind, KindLaws}
-use Rattle.wtf_overlay.specs.Origin.{Place}
-use Rattle.wtf_kv.specs.Stores.{Store, is_pinned, is_live, times_pinned}
-use Rattle.wtf_values.specs.declared.key.Key.{Key}
-use Rattle.wtf_values.specs.declared.region.RegionValue.{RegionValue}
-use Rattle.wtf_values.specs.declared.value.Value.{Value}
-use Rattle.wtf_meta.specs.Bytes.{MapBytes, MaybeBytes, any_slice}
-use Rattle.wtf_meta.specs.Maps.{metadata_at}
-use Rattle.wtf_meta.proofs.Weaker.{maybe_stays}
-use Rattle.wtf_region.specs.Inside.{is_inside}
-use Rattle.wtf_region.proofs.InsideLaws.{inside_stays}
-use Rattle.wtf_replay.specs.Views.{TxnView}
-use Rattle.wtf_replay.specs.Insides.{TxnBytes}
-use Rattle.wtf_replay.specs.Tried.{KeepsMaps}
-use Rattle.wtf_clients.specs.Views.{BesideView, TablesView, of_client, of_label, metadata_now}
-use Rattle.wtf_clients.specs.Sounds.{AreSound, Sets}
-use Rattle.wtf_clients.specs.Named.{TablesBytes}
-use Rattle.wtf_clients.specs.Turns.{SetsClientAlone, Ends, TablesStay}
-use Rattle.wtf_clients.proofs.Lives.{live_cases, live_upto, now_bytes, Reaches, same_reaches, ended_reaches}
-use Rattle.wtf_clients.proofs.Pins.{number_cases}
+use Rattle.wtf_clients.proofs.Common.{IsTrue, Settings, Slice, EachFollows, StoreKind, KindLaws, Place, Store, is_pinned, is_live, times_pinned, Key}
+use Rattle.wtf_clients.proofs.Common.{RegionValue, Value, MapBytes, MaybeBytes, any_slice, metadata_at, maybe_stays, is_inside, inside_stays, TxnView, TxnBytes}
+use Rattle.wtf_clients.proofs.Common.{KeepsMaps, BesideView, TablesView, of_client, of_label, metadata_now, AreSound, Sets, TablesBytes, SetsClientAlone, Ends}
+use Rattle.wtf_clients.proofs.Common.{TablesStay, ◌≡◌, ◌≤◌, ℕ, Bool, List, [], length, Option, None, Some, sym, ap, ◌∙◌, subst, ⊎_elim, arith}
+use Rattle.wtf_clients.proofs.{Lives.live_cases, Lives.live_upto, Lives.now_bytes, Lives.Reaches, Lives.same_reaches, Lives.ended_reaches, Pins.number_cases}
 
 module _ (P : List Place → Bool) (Q : Slice → Bool) where
   -- a transaction over a store that shows the same at its base
   pub txn_along : (kv after : Store Key Value) (x : TxnView) → metadata_at after x.at.base ≡ metadata_at kv x.at.base → TxnBytes P Q kv x → TxnBytes P Q after x
-  txn_along kv after x same h = record {
-    hand = record { base = subst (MapBytes P Q) (sym same) h.hand.base; changes = h.hand.changes; slices = h.hand.slices };
-    log = h.log;
-  }
+  txn_along kv after x same h =
+      record { hand = record { base = subst (MapBytes P Q) (sym same) h.hand.base; changes = h.hand.changes; slices = h.hand.slices }; log = h.log }
 
   -- the maps that can be read later: the map now, and those that could be read before
-  pub live_along : (old new : TablesView) → AreSound old → KeepsMaps old.kv new.kv → Reaches old.kv new.kv → TablesBytes P Q old → MapBytes P Q
-      (metadata_now new.kv)
-      → (n : ℕ) → IsTrue (is_live new.kv n) → MapBytes P Q (metadata_at new.kv n)
+  pub live_along : (old new : TablesView) → AreSound old → KeepsMaps old.kv new.kv → Reaches old.kv new.kv → TablesBytes P Q old
+      → MapBytes P Q (metadata_now new.kv) → (n : ℕ) → IsTrue (is_live new.kv n) → MapBytes P Q (metadata_at new.kv n)
   live_along old new sound maps reach h map n live = ⊎_elim
       (λ now. subst (λ k. MapBytes P Q (metadata_at new.kv k)) (sym now) map)
       (λ pinned.
       let was : IsTrue (is_live old.kv n) = reach n pinned in
-      subst (MapBytes P Q) (sym (maps n (live_upto old n sound was))) (h.live n was))
-      (live_cases new.kv n live)
+      subst (MapBytes P Q) (sym (maps n (live_upto old n sound was))) (h.live n was)) (live_cases new.kv n live)
 
   -- of all transactions one alone is now this one, or none
   pub bytes_set : (old new : TablesView) (c : ℕ) (now : Option TxnView) → AreSound old → Sets c now old.clients new.clients → KeepsMaps old.kv new.kv →
@@ -53,8 +29,7 @@ module _ (P : List Place → Bool) (Q : Slice → Bool) where
     each = λ d x is. ⊎_elim
         (λ same. own x (sym sets.is ∙ ap (of_client new.clients) (sym same) ∙ is))
         (λ other. let was : of_client old.clients d ≡ Some x = sym (sets.others d other) ∙ is in txn_along old.kv new.kv x
-        (maps x.at.base (sound.each d x was).based) (h.each d x was))
-        (number_cases d c);
+        (maps x.at.base (sound.each d x was).based) (h.each d x was)) (number_cases d c);
     planned = λ j x is. h.planned j x (ap (λ (b : BesideView). of_label b.jobs j) (sym beside) ∙ is);
   }
 

@@ -1,39 +1,13 @@
 -- What stores tell at the places of a set they go on telling where only bytes elsewhere are gone: bytes, slices, lists, and what values name.
-use Rattle.std.proofs.Common.{◌≡◌, ℕ, ◌<◌, ◌++◌, ◌/◌, ◌%◌, Bool, true, List, [], ◌∷◌, Option, None, Some, refl, sym, ap, ◌∙◌, get_or}
-use Rattle.std.specs.List.{All}
-use Rattle.std.proofs.lemmas.List.Sums.{AllPass-from_list_all}
-use Rattle.wtf_base.specs.declared.slice.Slice.{Slice}
-use Rattle.wtf_base.specs.Slices.{len_of}
-use Rattle.wtf_base.specs.Places.{places_of}
-use Rattle.wtf_overlay.specs.Origin.{Place, part_origin, pieces_len, pieces_origin, origin}
-use Rattle.wtf_overlay.specs.Meaning.{meaning}
-use Rattle.wtf_overlay.specs.Clips.{clip_list}
-use Rattle.wtf_overlay.specs.declared.part.Entry.{Entry}
-use Rattle.wtf_overlay.specs.declared.part.Part.{Part}
-use Rattle.wtf_overlay.specs.declared.part.Part.TheVariants.{Held}
-use Rattle.wtf_overlay.specs.declared.part.Piece.{Piece}
-use Rattle.wtf_overlay.proofs.Meanings.{All-meaning, meaning-All}
-use Rattle.wtf_kv.specs.declared.changes.Change.TheVariants as change
-use Rattle.wtf_values.specs.declared.region.RegionValue.{RegionValue}
-use Rattle.wtf_values.specs.declared.region.Spill.{Spill}
-use Rattle.wtf_values.specs.declared.value.Value.{Value}
-use Rattle.wtf_values.specs.declared.value.Value.TheVariants as value
-use Rattle.wtf_values.specs.declared.value.Delta.{Delta}
-use Rattle.wtf_values.specs.declared.value.Delta.TheVariants as delta
-use Rattle.wtf_meta.specs.Lists.{ListFact, TellLists, base_facts, or_none, seen_list}
-use Rattle.wtf_meta.specs.Files.{FileView, region_origin}
-use Rattle.wtf_meta.specs.Maps.{Map, Edits}
-use Rattle.wtf_meta.specs.Bytes.{PartBytes, EntryBytes, PiecesBytes, SliceBytes, BaseBytes, MaybeBytes, FileBytes, ValueBytes, MapBytes, DeltaBytes}
-use Rattle.wtf_meta.specs.Bytes.{EditsBytes, RegionBytes, ListSlices, ListsBytes, are_in}
-use Rattle.wtf_meta.specs.Contents.{Told, is_told, is_listed, TellBytes, PiecesTell, SliceTells, list_has, lists_in}
-use Rattle.wtf_meta.specs.Contents.{HasBytes}
-use Rattle.wtf_meta.specs.Sessions.{SessionView, SessionBytes}
-use Rattle.wtf_meta.specs.Calls.{Fact, TellFacts, FactsBytes}
-use Rattle.wtf_meta.proofs.ListTests.{entries_from, has_list, list_has-true}
-use Rattle.wtf_meta.proofs.Named.{pieces_named, region_origin_bytes}
-use Rattle.wtf_meta.proofs.Telling.{told_from, told_byte, lists_in-from, lists_in-is}
-use Rattle.wtf_replay.specs.Insides.{lists_have}
-use Rattle.wtf_clients.specs.Off.{TellsWhere}
+use Rattle.wtf_clients.proofs.Common.{All, AllPass-from_list_all, Slice, len_of, places_of, Place, part_origin, pieces_len, pieces_origin, origin, meaning}
+use Rattle.wtf_clients.proofs.Common.{clip_list, Entry, Part, Held, Piece, All-meaning, meaning-All, Change, RegionValue, Spill, Value, Delta, ListFact}
+use Rattle.wtf_clients.proofs.Common.{TellLists, base_facts, or_none, seen_list, FileView, region_origin, Map, Edits, PartBytes, EntryBytes, PiecesBytes}
+use Rattle.wtf_clients.proofs.Common.{BaseBytes, MaybeBytes, FileBytes, ValueBytes, MapBytes, DeltaBytes, EditsBytes, RegionBytes, ListSlices, ListsBytes}
+use Rattle.wtf_clients.proofs.Common.{are_in, Told, is_told, is_listed, TellBytes, PiecesTell, SliceTells, list_has, lists_in, HasBytes, SessionView}
+use Rattle.wtf_clients.proofs.Common.{SessionBytes, Fact, TellFacts, FactsBytes, entries_from, has_list, list_has-true, pieces_named, region_origin_bytes}
+use Rattle.wtf_clients.proofs.Common.{told_from, told_byte, lists_in-from, lists_in-is, lists_have, TellsWhere, ◌≡◌, ℕ, ◌<◌, ◌++◌, ◌/◌, ◌%◌, Bool, true, List}
+use Rattle.wtf_clients.proofs.Common.{[], ◌∷◌, Option, None, Some, refl, sym, ap, ◌∙◌, get_or}
+use Rattle.wtf_meta.specs.Bytes.{SliceBytes}
 
 -- a test of the places of a byte, and one of slices
 abbrev pub Tests : Type 0
@@ -89,32 +63,31 @@ module _ (set : Place → Bool) (b : ℕ) (told : Told) (F G : Tests) (pass : Pa
   pub region_passes : (v : RegionValue) → RegionBytes F.0 F.1 v → RegionBytes (are_in set) (lists_have b told (are_in set)) v → RegionBytes G.0 G.1 v
   region_passes v h here = record { base = base_passes v.base h.base here.base; entries = entries_pass v.list h.entries here.entries }
 
-  pub maybe_passes : (now : Option RegionValue) → MaybeBytes F.0 F.1 now → MaybeBytes (are_in set) (lists_have b told (are_in set)) now
-      → MaybeBytes G.0 G.1 now
+  pub maybe_passes : (now : Option RegionValue) → MaybeBytes F.0 F.1 now → MaybeBytes (are_in set) (lists_have b told (are_in set)) now → MaybeBytes G.0 G.1 now
   maybe_passes None h here = tt
   maybe_passes (Some v) h here = region_passes v h here
 
   value_passes : (v : Option Value) → ValueBytes F.0 F.1 v → ValueBytes (are_in set) (lists_have b told (are_in set)) v → ValueBytes G.0 G.1 v
   value_passes None h here = tt
-  value_passes (Some (value.Node n)) h here = tt
-  value_passes (Some (value.Names ns)) h here = tt
-  value_passes (Some (value.Count n)) h here = tt
-  value_passes (Some (value.Last r)) h here = tt
-  value_passes (Some (value.Region v)) h here = region_passes v h here
+  value_passes (Some (Value.Node n)) h here = tt
+  value_passes (Some (Value.Names ns)) h here = tt
+  value_passes (Some (Value.Count n)) h here = tt
+  value_passes (Some (Value.Last r)) h here = tt
+  value_passes (Some (Value.Region v)) h here = region_passes v h here
 
   pub map_passes : (w : Map) → MapBytes F.0 F.1 w → MapBytes (are_in set) (lists_have b told (are_in set)) w → MapBytes G.0 G.1 w
   map_passes w h here = λ q. value_passes (w q) (h q) (here q)
 
   delta_passes : (d : Delta) → DeltaBytes F.0 F.1 d → DeltaBytes (are_in set) (lists_have b told (are_in set)) d → DeltaBytes G.0 G.1 d
-  delta_passes (delta.Push e) h here = part_passes e.len e.part h here
-  delta_passes (delta.PushRel ps n) h here = pieces_pass ps h here
-  delta_passes (delta.Put v) h here = value_passes (Some v) h here
+  delta_passes (Delta.Push e) h here = part_passes e.len e.part h here
+  delta_passes (Delta.PushRel ps n) h here = pieces_pass ps h here
+  delta_passes (Delta.Put v) h here = value_passes (Some v) h here
   delta_passes d h here = tt
 
   pub edits_pass : (cs : Edits) → EditsBytes F.0 F.1 cs → EditsBytes (are_in set) (lists_have b told (are_in set)) cs → EditsBytes G.0 G.1 cs
   edits_pass [] h here = tt
-  edits_pass (change.Delta key d ∷ cs) h here = (delta_passes d h.0 here.0, edits_pass cs h.1 here.1)
-  edits_pass (change.Cut from to ∷ cs) h here = (tt, edits_pass cs h.1 here.1)
+  edits_pass (Change.Delta key d ∷ cs) h here = (delta_passes d h.0 here.0, edits_pass cs h.1 here.1)
+  edits_pass (Change.Cut from to ∷ cs) h here = (tt, edits_pass cs h.1 here.1)
 
 module _ (set : Place → Bool) (told later : Told) (on : TellsWhere set told later) where
   -- a byte that was told at such places is told still
@@ -136,8 +109,7 @@ module _ (set : Place → Bool) (told later : Told) (on : TellsWhere set told la
   slice_tells_where s bytes here h = tell_where (len_of s) (places_of s) bytes here h
 
   pub pieces_tell_where : (ps : List Piece) (bytes : List ℕ) → PiecesBytes (are_in set) ps → PiecesTell told ps bytes → PiecesTell later ps bytes
-  pieces_tell_where ps bytes here h =
-      tell_where (pieces_len ps) (pieces_origin ps) bytes (λ i below. pieces_named (are_in set) ps i here below) h
+  pieces_tell_where ps bytes here h = tell_where (pieces_len ps) (pieces_origin ps) bytes (λ i below. pieces_named (are_in set) ps i here below) h
 
   pub facts_where : (fs : List Fact) → FactsBytes (are_in set) fs → TellFacts told fs → TellFacts later fs
   facts_where [] here h = tt
@@ -169,17 +141,13 @@ module _ (set : Place → Bool) (told later : Told) (on : TellsWhere set told la
       slices = λ s slice here h.
           let was = has_list P (lists_in b told s) h in
           let is : All (EntryBytes (are_in set)) was.0 = entries_from (are_in set) was.0 (ap (list_has (are_in set)) (sym was.1) ∙ here) in
-          list_has-true R (lists_in b later s) was.0 (lists_in_where s was.0 slice was.1)
-          (all_of_two (EntryBytes P) (EntryBytes (are_in set)) (EntryBytes R)
+          list_has-true R (lists_in b later s) was.0 (lists_in_where s was.0 slice was.1) (all_of_two (EntryBytes P) (EntryBytes (are_in set)) (EntryBytes R)
           (λ (e : Entry) one two i below. stays (part_origin e.part i) (one i below) (two i below)) was.0 was.2 is);
     }
 
     -- and P did, where it holds of them over the later stores
     pub passes_back : (P : List Place → Bool) → Passes set b told (P, lists_have b later P) (P, lists_have b told P)
-    passes_back P = record {
-      places = λ qs h here. h;
-      slices = λ s slice here h. ap (list_has P) (sym (lists_in_same s slice here)) ∙ h;
-    }
+    passes_back P = record { places = λ qs h here. h; slices = λ s slice here h. ap (list_has P) (sym (lists_in_same s slice here)) ∙ h }
 
     -- what is told at places of the set is told later
     pub passes_told : Passes set b told (is_told told, is_listed b told) (is_told later, is_listed b later)
@@ -212,7 +180,5 @@ module _ (set : Place → Bool) (told later : Told) (on : TellsWhere set told la
     -- a file of such regions has the bytes that it had
     pub has_bytes_where : (v : FileView) (bytes : List ℕ) → FileBytes (are_in set) (lists_have b told (are_in set)) v → HasBytes told b v bytes
         → HasBytes later b v bytes
-    has_bytes_where v bytes here h = record {
-      len = h.len;
-      tells = λ x. region_means_where (v.region (x / b)) (x % b) (get_or bytes x 0) (here (x / b)) (h.tells x);
-    }
+    has_bytes_where v bytes here h =
+        record { len = h.len; tells = λ x. region_means_where (v.region (x / b)) (x % b) (get_or bytes x 0) (here (x / b)) (h.tells x) }

@@ -1,57 +1,19 @@
 -- What stands over stores that tell bytes stands over stores that tell those of them that it names: trees, transactions, jobs, images, tables.
-use Rattle.std.proofs.Common.{◌≡◌, ℕ, Bool, true, List, [], ◌∷◌, Option, None, Some, refl, sym, ap, ◌∙◌, subst, get_or}
-use Rattle.std.specs.Prelude.{IsTrue}
-use Rattle.std.specs.List.{All}
-use Rattle.std.proofs.lemmas.List.Elements.{All-head, All-tail}
-use Rattle.wtf_base.specs.declared.kept.Kept.{Kept}
-use Rattle.wtf_base.specs.declared.slice.Slice.{Slice}
-use Rattle.wtf_base.specs.Slices.{len_of}
-use Rattle.wtf_kv.specs.Stores.{Store, is_pinned}
-use Rattle.wtf_overlay.specs.Origin.{Place, part_origin}
-use Rattle.wtf_overlay.specs.declared.part.Part.TheVariants.{Held}
-use Rattle.wtf_model.specs.declared.op.Op.{Op}
-use Rattle.wtf_model.specs.Tree.{Tree, TreeNode, Dir, File}
-use Rattle.wtf_model.specs.Transaction.{Transaction, Job}
-use Rattle.wtf_model.specs.Machines.{Machine}
-use Rattle.wtf_log.specs.Calls.{Calls, own_of}
-use Rattle.wtf_log.specs.Standing.{OpsStandFor}
-use Rattle.wtf_log.proofs.StandingLaws.{OpStandsFor-weaker}
-use Rattle.wtf_values.specs.declared.key.Key.{Key}
-use Rattle.wtf_values.specs.declared.key.Key.TheVariants.{Path, Region}
-use Rattle.wtf_values.specs.declared.region.RegionValue.{RegionValue}
-use Rattle.wtf_values.specs.declared.value.Value.{Value}
-use Rattle.wtf_values.specs.declared.value.Value.TheVariants as value
-use Rattle.wtf_values.specs.declared.value.Node.TheVariants.{Folder, File as FileNode}
-use Rattle.wtf_meta.specs.Lists.{ListFact, TellLists}
-use Rattle.wtf_meta.specs.Bytes.{PiecesBytes, SliceBytes, MapBytes, MaybeBytes, ListsBytes, are_in}
-use Rattle.wtf_meta.specs.Contents.{Told, is_told, is_listed, list_has, lists_in}
-use Rattle.wtf_meta.specs.FileEdits.{file_of}
-use Rattle.wtf_meta.specs.Files.{region_origin}
-use Rattle.wtf_meta.specs.Maps.{Map, metadata_at}
-use Rattle.wtf_meta.specs.Trees.{NodeAt, Stands}
-use Rattle.wtf_meta.proofs.ListTests.{entries_from}
-use Rattle.wtf_meta.proofs.Named.{file_bytes, region_of_bytes}
-use Rattle.wtf_meta.proofs.Nothing.{nothing_kept}
-use Rattle.wtf_meta.proofs.Telling.{told_byte}
+use Rattle.wtf_clients.proofs.Common.{IsTrue, All, All-head, All-tail, Kept, Slice, len_of, Store, is_pinned, Place, part_origin, Held, Op, Tree, TreeNode, Dir}
+use Rattle.wtf_clients.proofs.Common.{File, Transaction, Job, Machine, Calls, own_of, OpsStandFor, OpStandsFor-weaker, Key, Path, Region, RegionValue, Value}
+use Rattle.wtf_clients.proofs.Common.{Folder, ListFact, TellLists, PiecesBytes, MapBytes, MaybeBytes, ListsBytes, are_in, Told, is_told, is_listed, list_has}
+use Rattle.wtf_clients.proofs.Common.{lists_in, file_of, region_origin, Map, metadata_at, NodeAt, Stands, entries_from, file_bytes, region_of_bytes}
+use Rattle.wtf_clients.proofs.Common.{nothing_kept, told_byte, LogBytes, TxnBytes, lists_have, LogStands, tells_slice, TxnView, JobView, target_region}
+use Rattle.wtf_clients.proofs.Common.{KeepsRegion, TablesView, of_client, of_label, metadata_now, AreSound, TablesBytes, StandsForTxn, StandsForSlot}
+use Rattle.wtf_clients.proofs.Common.{StandsForJob, StandsForLabel, IsImageTree, TablesStand, ListedBytes, TellsWhere, IsOwnTxn, IsOwnJob, ◌≡◌, ℕ, Bool, true}
+use Rattle.wtf_clients.proofs.Common.{List, [], ◌∷◌, Option, None, Some, refl, sym, ap, ◌∙◌, subst, get_or}
+use Rattle.wtf_values.specs.declared.value.Node.TheVariants.{File as FileNode}
+use Rattle.wtf_meta.specs.Bytes.{SliceBytes}
 use Rattle.wtf_rw.specs.Stored.{SliceBytes as OwnBytes}
-use Rattle.wtf_replay.specs.Insides.{LogBytes, TxnBytes, lists_have}
-use Rattle.wtf_replay.specs.Sounds.{LogStands, tells_slice}
-use Rattle.wtf_replay.specs.Views.{TxnView}
-use Rattle.wtf_compact.specs.Jobs.{JobView, target_region}
-use Rattle.wtf_compact.specs.Planned.{KeepsRegion}
-use Rattle.wtf_clients.specs.Views.{TablesView, of_client, of_label, metadata_now}
-use Rattle.wtf_clients.specs.Sounds.{AreSound}
-use Rattle.wtf_clients.specs.Named.{TablesBytes}
-use Rattle.wtf_clients.specs.Standing.{StandsForTxn, StandsForSlot, StandsForJob, StandsForLabel, IsImageTree, TablesStand}
-use Rattle.wtf_clients.specs.Telling.{ListedBytes}
-use Rattle.wtf_clients.specs.Off.{TellsWhere}
-use Rattle.wtf_clients.specs.Safe.{IsOwnTxn, IsOwnJob}
-use Rattle.wtf_clients.proofs.Images.{kept_pinned}
-use Rattle.wtf_clients.proofs.JobPins.{job_pinned}
-use Rattle.wtf_clients.proofs.Lives.{pinned_live, now_bytes}
-use Rattle.wtf_clients.proofs.OffLaws.{Tests, Passes, passes_on, passes_back, passes_told, tell_where, facts_where, tell_lists_where}
-use Rattle.wtf_clients.proofs.OffLaws.{slice_passes, pieces_pass, session_passes, region_passes, maybe_passes, map_passes, edits_pass}
-use Rattle.wtf_clients.proofs.OffLaws.{region_origin_has, region_means_where, has_bytes_where}
+use Rattle.wtf_clients.proofs.{Images.kept_pinned, JobPins.job_pinned, Lives.pinned_live, Lives.now_bytes, OffLaws.Tests, OffLaws.Passes, OffLaws.passes_on}
+use Rattle.wtf_clients.proofs.{OffLaws.passes_back, OffLaws.passes_told, OffLaws.tell_where, OffLaws.facts_where, OffLaws.tell_lists_where}
+use Rattle.wtf_clients.proofs.{OffLaws.slice_passes, OffLaws.pieces_pass, OffLaws.session_passes, OffLaws.region_passes, OffLaws.maybe_passes}
+use Rattle.wtf_clients.proofs.{OffLaws.map_passes, OffLaws.edits_pass, OffLaws.region_origin_has, OffLaws.region_means_where, OffLaws.has_bytes_where}
 
 module _ (set : Place → Bool) (told later : Told) (on : TellsWhere set told later) (b : ℕ) where
   -- each byte of a map lies in the set, also those that the lists of its bases name
@@ -64,8 +26,8 @@ module _ (set : Place → Bool) (told later : Told) (on : TellsWhere set told la
   node_where : (w : Map) (v : Option Value) (o : Option TreeNode) → IsHere w → NodeAt b told w v o → NodeAt b later w v o
   node_where w None None here h = h
   node_where w None (Some n) here h = absurd h
-  node_where w (Some (value.Node Folder)) (Some Dir) here h = h
-  node_where w (Some (value.Node (FileNode i))) (Some (File paths bytes)) here h =
+  node_where w (Some (Value.Node Folder)) (Some Dir) here h = h
+  node_where w (Some (Value.Node (FileNode i))) (Some (File paths bytes)) here h =
       record {
         body = record {
           has = h.body.has;
@@ -77,14 +39,14 @@ module _ (set : Place → Bool) (told later : Told) (on : TellsWhere set told la
         all = h.all;
         count = h.count;
       }
-  node_where w (Some (value.Node Folder)) (Some (File paths bytes)) here h = absurd h
-  node_where w (Some (value.Node (FileNode i))) (Some Dir) here h = absurd h
-  node_where w (Some (value.Node Folder)) None here h = absurd h
-  node_where w (Some (value.Node (FileNode i))) None here h = absurd h
-  node_where w (Some (value.Names ns)) o here h = absurd h
-  node_where w (Some (value.Count n)) o here h = absurd h
-  node_where w (Some (value.Last r)) o here h = absurd h
-  node_where w (Some (value.Region v)) o here h = absurd h
+  node_where w (Some (Value.Node Folder)) (Some (File paths bytes)) here h = absurd h
+  node_where w (Some (Value.Node (FileNode i))) (Some Dir) here h = absurd h
+  node_where w (Some (Value.Node Folder)) None here h = absurd h
+  node_where w (Some (Value.Node (FileNode i))) None here h = absurd h
+  node_where w (Some (Value.Names ns)) o here h = absurd h
+  node_where w (Some (Value.Count n)) o here h = absurd h
+  node_where w (Some (Value.Last r)) o here h = absurd h
+  node_where w (Some (Value.Region v)) o here h = absurd h
 
   -- a map that names only such bytes goes on standing for its tree
   pub stands_where : (tx k : ℕ) (w : Map) (t : Tree) → IsHere w → Stands b told tx k w t → Stands b later tx k w t

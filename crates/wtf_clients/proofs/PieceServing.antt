@@ -1,52 +1,14 @@
 -- What parts of a scan made of the bytes that the tables name, and why one failed.
-use Rattle.std.proofs.Common.{◌≡◌, ◌+◌, ℕ, Bool, nat_eq, count_by, List, [], Option, None, Some, refl, sym, ap, ◌∙◌}
-use Rattle.std.proofs.Common.{subst, inl, inr, arith}
-use Rattle.wtf_base.specs.declared.fault.Fault.{Fault}
-use Rattle.wtf_base.specs.declared.fault.Fault.TheVariants as fault
-use Rattle.wtf_base.specs.declared.slice.Slice.{Slice}
-use Rattle.wtf_base.specs.declared.settings.Settings.{Settings}
-use Rattle.wtf_dev.specs.Store.{StoreKind, KindLaws}
-use Rattle.wtf_overlay.specs.Origin.{Place}
-use Rattle.wtf_ring.specs.Points.{IsRing}
-use Rattle.wtf_kv.specs.Stores.{Store}
-use Rattle.wtf_values.specs.declared.key.Key.{Key}
-use Rattle.wtf_values.specs.declared.value.Value.{Value}
-use Rattle.wtf_model.specs.declared.answer.Answer.{Answer}
-use Rattle.wtf_model.specs.declared.answer.Answer.TheVariants as answer
-use Rattle.wtf_model.specs.declared.event.Event.TheVariants as event
-use Rattle.wtf_model.specs.Lawful.{IsReadFault}
-use Rattle.wtf_meta.specs.Bytes.{MaybeBytes, any_slice}
-use Rattle.wtf_region.specs.declared.dev.Dev.{Dev}
-use Rattle.wtf_region.specs.Devs.{IsSoundDev, GoesOn, stores, remembered, told_in, inside_of, between}
-use Rattle.wtf_region.specs.Inside.{is_inside}
-use Rattle.wtf_region.specs.Showing.{OnlyRead}
-use Rattle.wtf_steps.proofs.FaultWays.{IsOfServers, region_fault_known}
-use Rattle.wtf_replay.specs.Causes.{fault_answer}
-use Rattle.wtf_replay.specs.Insides.{lists_have}
-use Rattle.wtf_gc.specs.Reading.{PartLacksBase}
-use Rattle.wtf_gc.specs.Scans.{IsPrunedFrom, IsPieceFault, AreHeld, next_parts}
-use Rattle.wtf_gc.specs.Views.{RunView}
-use Rattle.wtf_gc.proofs.Living.{kept_region}
-use Rattle.wtf_clients.specs.Views.{BesideView, TablesView}
-use Rattle.wtf_clients.specs.Sounds.{AreSound, all_owned, all_kept, all_seen}
-use Rattle.wtf_clients.specs.Named.{TablesBytes, any_byte, no_slice, has_copies}
-use Rattle.wtf_clients.specs.Asked.{Asked, line_asked, lent_by}
-use Rattle.wtf_clients.specs.Outcomes.{no_load, HasCause}
-use Rattle.wtf_clients.specs.Serves.{NamesTables, IsPlain, AreBased, AreFull, ServesLine}
-use Rattle.wtf_clients.specs.ScanTurns.{IsPruned, DoesTurn}
-use Rattle.wtf_clients.specs.Telling.{TellsTables, AreWide, ServesTold, ReadsTold}
-use Rattle.wtf_clients.proofs.Caused.{has_failed}
-use Rattle.wtf_clients.proofs.Images.{kept_enough}
-use Rattle.wtf_clients.proofs.Lacking.{memory_none, region_caused, cause_since}
-use Rattle.wtf_clients.proofs.Lists.{sets_same}
-use Rattle.wtf_clients.proofs.Lives.{pinned_live}
-use Rattle.wtf_clients.proofs.Naming.{value_later}
-use Rattle.wtf_clients.proofs.ScanFrames.{does_reads, sound_scanned}
-use Rattle.wtf_clients.proofs.ScanLaws.{kept_names}
-use Rattle.wtf_clients.proofs.Scanning.{pruned_live}
-use Rattle.wtf_clients.proofs.Known.{lent_to}
-use Rattle.wtf_clients.proofs.Serving.{from_names, read_serves, read_failed}
-use Rattle.wtf_clients.proofs.ToldServing.{stays_told}
+use Rattle.wtf_clients.proofs.Common.{Fault, Slice, Settings, StoreKind, KindLaws, Place, IsRing, Store, Key, Value, Answer, Event, IsReadFault, MaybeBytes}
+use Rattle.wtf_clients.proofs.Common.{any_slice, Dev, IsSoundDev, GoesOn, stores, remembered, told_in, inside_of, between, is_inside, OnlyRead, IsOfServers}
+use Rattle.wtf_clients.proofs.Common.{region_fault_known, fault_answer, lists_have, PartLacksBase, IsPrunedFrom, IsPieceFault, AreHeld, next_parts, RunView}
+use Rattle.wtf_clients.proofs.Common.{kept_region, BesideView, TablesView, AreSound, all_owned, all_kept, all_seen, TablesBytes, any_byte, no_slice, has_copies}
+use Rattle.wtf_clients.proofs.Common.{Asked, line_asked, lent_by, no_load, HasCause, NamesTables, IsPlain, AreBased, AreFull, ServesLine, IsPruned, DoesTurn}
+use Rattle.wtf_clients.proofs.Common.{TellsTables, AreWide, ServesTold, ReadsTold, ◌≡◌, ◌+◌, ℕ, Bool, nat_eq, count_by, List, [], Option, None, Some, refl, sym}
+use Rattle.wtf_clients.proofs.Common.{ap, ◌∙◌, subst, inl, inr, arith}
+use Rattle.wtf_clients.proofs.{Lives.AreInside, Caused.has_failed, Images.kept_enough, Lacking.memory_none, Lacking.region_caused, Lacking.cause_since}
+use Rattle.wtf_clients.proofs.{Lists.sets_same, Lives.pinned_live, Naming.value_later, ScanFrames.does_reads, ScanFrames.sound_scanned, ScanLaws.kept_names}
+use Rattle.wtf_clients.proofs.{Scanning.pruned_live, Known.lent_to, Serving.from_names, Serving.read_serves, Serving.read_failed, ToldServing.stays_told}
 
 -- a scan that runs has pinned what it has seen
 pub held_enough : (tables : TablesView) → AreSound tables → AreHeld tables.beside.gc.running tables.kv
@@ -80,12 +42,11 @@ does_names kind before after old new n left sound turn =
 
 -- ---- parts that were not done, with versions that are kept
 module _ {S : Type 0} {kind : StoreKind S} (laws : KindLaws kind) (old new : Dev S) (lent : IsSoundDev kind old) (before : TablesView)
-    (inside : TablesBytes (is_inside kind (stores old) old.settings) any_slice before) (k : ℕ) (kept : Store Key Value) (pruned : IsPrunedFrom before.kv kept)
+    (inside : AreInside kind old before) (k : ℕ) (kept : Store Key Value) (pruned : IsPrunedFrom before.kv kept)
     (why : Fault) (a : Answer) (is : fault_answer why ≡ Some a) where
   -- the region whose base was not read names no more than the tables do
   region_in : (r : RunView) → (P : List Place → Bool) (Q : Slice → Bool) → TablesBytes P Q before
-      → (v : PartLacksBase kind old new kept (next_parts r.left k) why)
-      → MaybeBytes P Q (Some v.region)
+      → (v : PartLacksBase kind old new kept (next_parts r.left k) why) → MaybeBytes P Q (Some v.region)
   region_in r P Q h v = kept_region P Q before.kv kept pruned h.live (next_parts r.left k) v.region v.there
 
   -- it lies inside the stores still
@@ -99,11 +60,11 @@ module _ {S : Type 0} {kind : StoreKind S} (laws : KindLaws kind) (old new : Dev
   piece_known cause = by before.beside.gc.running cause
     where
       read : (w : Fault) → fault_answer w ≡ Some a → IsOfServers old.settings.servers w → IsReadFault old.settings.servers a
-      read (fault.Read j) same known = subst (IsReadFault old.settings.servers) (let e : answer.FaultRead j.0 ≡ a = cc in e) known
-      read (fault.Damaged j) same known = subst (IsReadFault old.settings.servers) (let e : answer.Damaged j.0 ≡ a = cc in e) known
-      read fault.Memory same known = absurd (memory_none fault.Memory a same refl)
-      read fault.Write same known = absurd known
-      read (fault.Punch j) same known = absurd known
+      read (Fault.Read j) same known = subst (IsReadFault old.settings.servers) (let e : Answer.FaultRead j.0 ≡ a = cc in e) known
+      read (Fault.Damaged j) same known = subst (IsReadFault old.settings.servers) (let e : Answer.Damaged j.0 ≡ a = cc in e) known
+      read Fault.Memory same known = absurd (memory_none Fault.Memory a same refl)
+      read Fault.Write same known = absurd known
+      read (Fault.Punch j) same known = absurd known
 
       by : (r : Option RunView) → IsPieceFault kind old new kept r k why → IsReadFault old.settings.servers a
       by None none = absurd none
@@ -115,8 +76,7 @@ module _ {S : Type 0} {kind : StoreKind S} (laws : KindLaws kind) (old new : Dev
 
   -- Why it came. Where `full` holds, each byte has as many copies as there are replicas, and O then holds of each base.
   pub piece_by : IsPieceFault kind old new kept before.beside.gc.running k why → (full : Type 0) (O : Slice → Bool)
-      → (full → TablesBytes (has_copies old.settings.replicas) O before)
-      → HasCause kind (between old new) old.settings ⊥ (AreBased before) full no_load a
+      → (full → TablesBytes (has_copies old.settings.replicas) O before) → HasCause kind (between old new) old.settings ⊥ (AreBased before) full no_load a
   piece_by cause full O copies = by before.beside.gc.running cause
     where
       by : (r : Option RunView) → IsPieceFault kind old new kept r k why → HasCause kind (between old new) old.settings ⊥ (AreBased before) full no_load a
@@ -131,13 +91,13 @@ module _ {S : Type 0} {kind : StoreKind S} (laws : KindLaws kind) (old new : Dev
           lacks.cause)
 
 module _ {S : Type 0} {kind : StoreKind S} (laws : KindLaws kind) (old new : Dev S) (goes : GoesOn kind old new []) (lent : IsSoundDev kind old)
-    (before : TablesView) (sound : AreSound before) (inside : TablesBytes (is_inside kind (stores old) old.settings) any_slice before) where
+    (before : TablesView) (sound : AreSound before) (inside : AreInside kind old before) where
   abbrev asked : ℕ → Asked
-  asked k = line_asked kind (between old new) (lent_by old new) before (event.Piece k)
+  asked k = line_asked kind (between old new) (lent_by old new) before (Event.Piece k)
 
   -- what was read was read, and what is named was named
   pub piece_serves : (k : ℕ) (after : TablesView) (a : Answer) → NamesTables before after → OnlyRead kind (between old new) → IsPlain a
-      → ServesLine kind (between old new) (lent_by old new) before after (event.Piece k) a
+      → ServesLine kind (between old new) (lent_by old new) before after (Event.Piece k) a
   piece_serves k after a names reads plain =
       read_serves laws old new goes lent before sound inside after (asked k).goes_to (asked k).empty (asked k).fails a
       (from_names laws old new goes lent before sound inside after names) reads plain
@@ -145,8 +105,7 @@ module _ {S : Type 0} {kind : StoreKind S} (laws : KindLaws kind) (old new : Dev
   -- or was not
   pub piece_fails : (k : ℕ) (after : TablesView) → NamesTables before after → OnlyRead kind (between old new) → IsRing old.settings.servers old.ring.now.points
       → (kept : Store Key Value) → IsPrunedFrom before.kv kept → (why : Fault) (a : Answer) → fault_answer why ≡ Some a
-      → IsPieceFault kind old new kept before.beside.gc.running k why
-      → ServesLine kind (between old new) (lent_by old new) before after (event.Piece k) a
+      → IsPieceFault kind old new kept before.beside.gc.running k why → ServesLine kind (between old new) (lent_by old new) before after (Event.Piece k) a
   piece_fails k after names reads ring kept pruned why a is cause =
       read_failed laws old new goes lent before sound inside after (asked k).goes_to (asked k).empty (asked k).fails a
       (from_names laws old new goes lent before sound inside after names) reads

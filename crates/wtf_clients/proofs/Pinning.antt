@@ -1,20 +1,8 @@
 -- The pins of the images, where one comes, goes, or is the only one that stays, and of what is watched.
-use Rattle.std.proofs.Common.{◌≡◌, ◌≤◌, ◌<◌, ℕ, ◌+◌, ◌-◌, cond, nat_eq, count_by, List, [], ◌∷◌, Some, ◌++◌, take, drop, get_or, suc, length, refl, sym, ap}
-use Rattle.std.proofs.Common.{◌∙◌, arith}
-use Rattle.std.specs.Prelude.{IsTrue}
-use Rattle.std.proofs.Math.Seq.{take-append_seam, take-suc}
-use Rattle.std.proofs.lemmas.Bool.{eq-eqb}
-use Rattle.std.proofs.lemmas.List.Sums.{sum_by-append}
-use Rattle.std.proofs.lemmas.List.{length_push, take-append-drop}
-use Rattle.wtf_kv.specs.Stores.{Store, is_pinned, times_pinned, versions_of, IsPinnedOnceMore}
-use Rattle.wtf_kv.proofs.PinLaws.{any-count, count-push}
-use Rattle.wtf_values.specs.declared.key.Key.{Key}
-use Rattle.wtf_values.specs.declared.value.Value.{Value}
-use Rattle.wtf_values.specs.Keys.{key_cmp}
-use Rattle.wtf_meta.specs.Maps.{metadata_at}
-use Rattle.wtf_clients.specs.Views.{BesideView, TablesView, watching}
-use Rattle.wtf_clients.specs.Sounds.{all_kept, all_watched}
-use Rattle.wtf_clients.specs.Saves.{with_image, only_image, Saves}
+use Rattle.wtf_clients.proofs.Common.{IsTrue, take-append_seam, take-suc, eq-eqb, sum_by-append, length_push, take-append-drop, Store, is_pinned, times_pinned}
+use Rattle.wtf_clients.proofs.Common.{versions_of, IsPinnedOnceMore, any-count, count-push, Key, Value, key_cmp, metadata_at, BesideView, TablesView, watching}
+use Rattle.wtf_clients.proofs.Common.{all_kept, all_watched, with_image, only_image, Saves, ◌≡◌, ◌≤◌, ◌<◌, ℕ, ◌+◌, ◌-◌, cond, nat_eq, count_by, List, [], ◌∷◌}
+use Rattle.wtf_clients.proofs.Common.{Some, ◌++◌, take, drop, get_or, suc, length, refl, sym, ap, ◌∙◌, arith}
 
 -- the list but for its last
 front : {A : Type 0} (xs : List A) (x : A) → take (length (xs ++ x ∷ []) - 1) (xs ++ x ∷ []) ≡ xs

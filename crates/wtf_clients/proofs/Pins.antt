@@ -1,15 +1,7 @@
 -- The pins of the open transactions, and the clients that they are of.
-use Rattle.std.proofs.Common.{◌≡◌, ◌≢◌, ◌<◌, ℕ, ◌+◌, true, false, nat_eq, cond, [], ◌∷◌, Option, Some, refl, sym, ap, ◌∙◌, ◌⊎◌, inl, inr, ⊎_elim, arith}
-use Rattle.std.specs.Prelude.{IsTrue, if◌then◌else◌}
-use Rattle.std.proofs.lemmas.Bool.{cases_Bool, eqb-true, eq-eqb}
-use Rattle.std.proofs.lemmas.List.Sums.{sum_by-cons}
-use Rattle.wtf_kv.specs.Stores.{Store, is_pinned, times_pinned}
-use Rattle.wtf_kv.proofs.PinLaws.{any-count}
-use Rattle.wtf_values.specs.declared.key.Key.{Key}
-use Rattle.wtf_values.specs.declared.value.Value.{Value}
-use Rattle.wtf_replay.specs.Views.{TxnView}
-use Rattle.wtf_clients.specs.Views.{Clients, BesideView, of_client}
-use Rattle.wtf_clients.specs.Sounds.{owned, all_owned, all_kept}
+use Rattle.wtf_clients.proofs.Common.{IsTrue, if◌then◌else◌, cases_Bool, eqb-true, eq-eqb, sum_by-cons, Store, is_pinned, times_pinned, any-count, Key, Value}
+use Rattle.wtf_clients.proofs.Common.{TxnView, Clients, BesideView, of_client, owned, all_owned, all_kept, ◌≡◌, ◌≢◌, ◌<◌, ℕ, ◌+◌, true, false, nat_eq, cond, []}
+use Rattle.wtf_clients.proofs.Common.{◌∷◌, Option, Some, refl, sym, ap, ◌∙◌, ◌⊎◌, inl, inr, ⊎_elim, arith}
 
 -- two numbers are one, or they are not
 pub number_cases : (a b : ℕ) → (a ≡ b) ⊎ (a ≢ b)

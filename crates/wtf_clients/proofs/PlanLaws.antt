@@ -1,47 +1,24 @@
 -- Where a job may be of a region, by the map, and what is then due on each tree for which the map stands.
-use Rattle.std.proofs.Common.{◌≡◌, ℕ, ◌+◌, ◌-◌, ◌*◌, ◌/◌, ◌<◌, zero, suc, Bool, true, false, ◌&&◌, nat_le, nat_lt, List, length, Option, None, Some}
-use Rattle.std.proofs.Common.{Result, Ok, Err, refl, sym, ap, ◌∙◌, ◌⊎◌, inl, inr, arith}
-use Rattle.std.specs.Prelude.{if◌then◌else◌}
-use Rattle.std.specs.FinMap.{get}
-use Rattle.std.proofs.lemmas.Bool.{cases_Bool, and_parts, leb-true, ltb-true, le-leb, lt-ltb}
-use Rattle.std.proofs.lemmas.Nat.{div-mul-add}
-use Rattle.wtf_base.specs.declared.ids.InodeId.{InodeId}
-use Rattle.wtf_model.specs.declared.answer.Answer.{Answer}
-use Rattle.wtf_model.specs.declared.answer.Answer.TheVariants as answer
-use Rattle.wtf_model.specs.declared.answer.Word.{Word}
-use Rattle.wtf_model.specs.declared.answer.Word.TheVariants.{NoRegion}
-use Rattle.wtf_model.specs.declared.limits.TheConstants.{MAX_REGIONS}
+use Rattle.wtf_clients.proofs.Common.{if◌then◌else◌, get, cases_Bool, and_parts, leb-true, ltb-true, le-leb, lt-ltb, div-mul-add, InodeId, Answer, Word}
+use Rattle.wtf_clients.proofs.Common.{NoRegion, MAX_REGIONS, last_region, Tree, TreeNode, ◌>>=◌, bytes_of, Path, Node, Folder, Value, Told, file_of, FileView}
+use Rattle.wtf_clients.proofs.Common.{IsFile, end_of, file_len, Map, node_of, LeadsTo, IsBody, Stands, stands_at, HasRegion, region_in_map, plan_due}
+use Rattle.wtf_clients.proofs.Common.{has_region, refusal_at, plan_answer, ◌≡◌, ℕ, ◌+◌, ◌-◌, ◌*◌, ◌/◌, ◌<◌, zero, suc, Bool, true, false, ◌&&◌, nat_le, nat_lt}
+use Rattle.wtf_clients.proofs.Common.{List, length, Option, None, Some, Result, Ok, Err, refl, sym, ap, ◌∙◌, ◌⊎◌, inl, inr, arith}
 use Rattle.wtf_model.specs.Faults.{or_refusal}
-use Rattle.wtf_model.specs.Jobs.{last_region}
 use Rattle.wtf_model.specs.Jobs as jobs
-use Rattle.wtf_model.specs.Tree.{Tree, TreeNode, ◌>>=◌, bytes_of}
-use Rattle.wtf_values.specs.declared.key.Key.TheVariants.{Path}
-use Rattle.wtf_values.specs.declared.value.Node.{Node}
-use Rattle.wtf_values.specs.declared.value.Node.TheVariants.{Folder, File as FileNode}
-use Rattle.wtf_values.specs.declared.value.Value.{Value}
-use Rattle.wtf_values.specs.declared.value.Value.TheVariants as value
-use Rattle.wtf_meta.specs.Contents.{Told}
-use Rattle.wtf_meta.specs.FileEdits.{file_of}
-use Rattle.wtf_meta.specs.Files.{FileView, IsFile, end_of, file_len}
-use Rattle.wtf_meta.specs.Maps.{Map}
-use Rattle.wtf_meta.specs.NameEdits.{node_of}
-use Rattle.wtf_meta.specs.Trees.{LeadsTo, IsBody, Stands}
-use Rattle.wtf_index.specs.Checks.{stands_at}
-use Rattle.wtf_compact.specs.Jobs.{HasRegion, region_in_map}
-use Rattle.wtf_clients.specs.JobTurns.{plan_due}
-use Rattle.wtf_clients.specs.Planning.{has_region, refusal_at, plan_answer}
+use Rattle.wtf_values.specs.declared.value.Node.TheVariants.{File as FileNode}
 use Rattle.wtf_clients.proofs.Dumping.{none_at, folder_at, file_at}
 
 -- ---- by the map
 
 -- a path leads where the node says that stands there
-pub leads_at : (v : Option Value) (i : InodeId) → node_of v ≡ Some (FileNode i) → v ≡ Some (value.Node (FileNode i))
+pub leads_at : (v : Option Value) (i : InodeId) → node_of v ≡ Some (FileNode i) → v ≡ Some (Value.Node (FileNode i))
 leads_at None i is = absurd (cc)
-leads_at (Some (value.Node n)) i is = let same : n ≡ FileNode i = cc in ap (λ m. Some (value.Node m)) same
-leads_at (Some (value.Names s)) i is = absurd (cc)
-leads_at (Some (value.Count n)) i is = absurd (cc)
-leads_at (Some (value.Last r)) i is = absurd (cc)
-leads_at (Some (value.Region g)) i is = absurd (cc)
+leads_at (Some (Value.Node n)) i is = let same : n ≡ FileNode i = cc in ap (λ m. Some (Value.Node m)) same
+leads_at (Some (Value.Names s)) i is = absurd (cc)
+leads_at (Some (Value.Count n)) i is = absurd (cc)
+leads_at (Some (Value.Last r)) i is = absurd (cc)
+leads_at (Some (Value.Region g)) i is = absurd (cc)
 
 module _ (size : ℕ) (w : Map) (p : List ℕ) (r : ℕ) where
   region_there : (i : InodeId) → LeadsTo w p i → has_region size w i r ≡ true → HasRegion size w p r
@@ -117,7 +94,7 @@ abbrev due_at : ℕ → ℕ → Option TreeNode → Answer
 due_at size r o = or_refusal (do
   bytes ← bytes_of o
   _ ← jobs.has_region size bytes r
-  Ok answer.Planned)
+  Ok Answer.Planned)
 
 abbrev if_region : Bool → Result (Unit {0}) Word
 if_region b = if b then Ok tt else Err NoRegion
@@ -125,7 +102,7 @@ if_region b = if b then Ok tt else Err NoRegion
 abbrev due_if : Bool → Answer
 due_if b = or_refusal (do
   _ ← if_region b
-  Ok answer.Planned)
+  Ok Answer.Planned)
 
 if_due : (b : Bool) → due_if b ≡ plan_answer (if b then None else Some NoRegion)
 if_due true = refl

@@ -1,21 +1,8 @@
 -- Ranges that were punched: what lies apart from them, and that stores tell what they told but in these.
-use Rattle.std.proofs.Common.{◌≡◌, ℕ, ◌+◌, ◌≤◌, ◌&&◌, ◌||◌, ◌++◌, Bool, true, false, cond, nat_eq, nat_le, nat_lt, List, [], ◌∷◌}
-use Rattle.std.proofs.Common.{refl, sym, ap, ◌∙◌, subst, inl, inr}
-use Rattle.std.specs.Prelude.{not}
-use Rattle.std.specs.List.{list_any}
-use Rattle.std.proofs.lemmas.Bool.{and_parts, and_from, or_left, or_right, cases_Bool, cases_eq, cases_lt, eq-eqb, ne_eqb, le-leb, lt-ltb}
-use Rattle.wtf_dev.specs.Store.{Range, Outside, StoreKind, KindLaws}
-use Rattle.wtf_dev.specs.Each.{on_server, EachFollows}
-use Rattle.wtf_overlay.specs.Origin.{Place}
-use Rattle.wtf_replica.specs.Bytes.{byte_at}
-use Rattle.wtf_replica.specs.Faults.{punched_on}
-use Rattle.wtf_replica.proofs.Bytes.{byte_at-kept}
-use Rattle.wtf_meta.specs.Bytes.{are_in}
-use Rattle.wtf_meta.specs.Contents.{Told}
-use Rattle.wtf_region.specs.Apart.{lies_in, lies_apart, are_apart, with_ranges}
-use Rattle.wtf_clients.specs.Views.{TablesView}
-use Rattle.wtf_clients.specs.Telling.{ListedBytes}
-use Rattle.wtf_clients.specs.Off.{TellsWhere}
+use Rattle.wtf_clients.proofs.Common.{not, list_any, and_parts, and_from, or_left, or_right, cases_Bool, cases_eq, cases_lt, eq-eqb, ne_eqb, le-leb, lt-ltb}
+use Rattle.wtf_clients.proofs.Common.{Range, Outside, StoreKind, KindLaws, on_server, EachFollows, Place, byte_at, punched_on, byte_at-kept, are_in, Told}
+use Rattle.wtf_clients.proofs.Common.{lies_in, lies_apart, are_apart, with_ranges, TablesView, ListedBytes, TellsWhere, ◌≡◌, ℕ, ◌+◌, ◌≤◌, ◌&&◌, ◌||◌, ◌++◌}
+use Rattle.wtf_clients.proofs.Common.{Bool, true, false, cond, nat_eq, nat_le, nat_lt, List, [], ◌∷◌, refl, sym, ap, ◌∙◌, subst, inl, inr}
 use Rattle.wtf_clients.proofs.OffStanding.{listed_where}
 
 -- a place that does not lie in a range of its server and file lies before or behind it

@@ -1,32 +1,11 @@
 -- What others see of a job that was put: the bytes of its file stand elsewhere. And why a job is stale.
-use Rattle.std.proofs.Common.{◌≡◌, ℕ, suc, true, List, [], ◌∷◌, ◌++◌, Option, None, Some, refl, sym, ap, ◌∙◌, subst, inl, ⊎_elim, arith}
-use Rattle.std.proofs.lemmas.Bool.{both_ways}
-use Rattle.wtf_base.specs.declared.ids.InodeId.{InodeId}
-use Rattle.wtf_kv.specs.Stores.{Store}
-use Rattle.wtf_model.specs.declared.answer.Answer.TheVariants as answer
-use Rattle.wtf_model.specs.declared.item.Item.{Item}
-use Rattle.wtf_model.specs.declared.item.Item.TheVariants.{NodeOf, BodyOf}
-use Rattle.wtf_model.specs.Items.{meets, source_reads}
-use Rattle.wtf_model.specs.Tree.{Tree}
-use Rattle.wtf_model.proofs.ItemLaws.{is_among-head, is_among-tail, meets-by}
-use Rattle.wtf_values.specs.declared.key.Key.{Key}
-use Rattle.wtf_values.specs.declared.key.Key.TheVariants.{Path, Inode, Region}
-use Rattle.wtf_values.specs.declared.region.RegionValue.{RegionValue}
-use Rattle.wtf_values.specs.declared.value.Value.{Value}
-use Rattle.wtf_meta.specs.Contents.{Told}
-use Rattle.wtf_meta.specs.Feet.{Has, WrittenBy, EachWritten, ReadBy, Feet}
-use Rattle.wtf_meta.specs.FileEdits.{edits_of}
-use Rattle.wtf_meta.specs.Maps.{Map, AllFit, with, metadata_at}
-use Rattle.wtf_meta.specs.Trees.{LeadsTo, Own, Stands}
-use Rattle.wtf_meta.proofs.FeetFiles.{edits_are_of, paths_kept}
-use Rattle.wtf_meta.proofs.FeetLaws.{unfit-none}
-use Rattle.wtf_compact.specs.Jobs.{JobView, puts, job_edits}
-use Rattle.wtf_compact.specs.Putting.{IsJobPut, IsStale}
-use Rattle.wtf_clients.specs.Views.{metadata_now}
-use Rattle.wtf_clients.specs.Touched.{above, SinceBase}
-use Rattle.wtf_clients.proofs.AboveLaws.{above-version}
-use Rattle.wtf_clients.proofs.SinceLaws.{TouchedSince, touched_installed, since_installed}
-use Rattle.wtf_clients.proofs.TouchLaws.{HasNone, has_none}
+use Rattle.wtf_clients.proofs.Common.{both_ways, InodeId, Store, Answer, Item, NodeOf, BodyOf, meets, source_reads, Tree, is_among-head, is_among-tail}
+use Rattle.wtf_clients.proofs.Common.{meets-by, Key, Path, Inode, Region, RegionValue, Value, Told, Has, WrittenBy, EachWritten, ReadBy, Feet, edits_of, Map}
+use Rattle.wtf_clients.proofs.Common.{AllFit, with, metadata_at, LeadsTo, Own, Stands, edits_are_of, paths_kept, unfit-none, JobView, puts, job_edits, IsJobPut}
+use Rattle.wtf_clients.proofs.Common.{IsStale, metadata_now, above, SinceBase, ◌≡◌, ℕ, suc, true, List, [], ◌∷◌, ◌++◌, Option, None, Some, refl, sym, ap, ◌∙◌}
+use Rattle.wtf_clients.proofs.Common.{subst, inl, ⊎_elim, arith}
+use Rattle.wtf_clients.proofs.{AboveLaws.above-version, SinceLaws.TouchedSince, SinceLaws.touched_installed, SinceLaws.since_installed, TouchLaws.HasNone}
+use Rattle.wtf_clients.proofs.{TouchLaws.has_none}
 
 -- ---- what a put does to a map
 
@@ -65,7 +44,7 @@ put_feet other w x changed each =
 
 -- ---- what was touched, once a job is in place
 
-module _ (x : JobView) (old new : Store Key Value) (n : ℕ) (put : IsJobPut x old new (answer.Installed n)) (changed : List Item)
+module _ (x : JobView) (old new : Store Key Value) (n : ℕ) (put : IsJobPut x old new (Answer.Installed n)) (changed : List Item)
     (each : (q : List ℕ) → LeadsTo (metadata_now old) q x.target.inode → Has (BodyOf q) changed) where
   pub put_map : metadata_now new ≡ with (job_edits x) (metadata_now old)
   put_map = ap (metadata_at new) put.number ∙ put.map
@@ -104,6 +83,4 @@ stale_met x old new b n items stale leads touched = ⊎_elim
     (λ was. meets-by items (source_reads x.path) (BodyOf x.path) was
     (is_among-tail (NodeOf x.path) (BodyOf x.path ∷ []) (BodyOf x.path) (is_among-head (BodyOf x.path) [])))
     (λ still. absurd (both_ways (above old x.base (Region x.target.inode x.target.region)) (still.1.regions x.target.region)
-    (above-version old x.base old.number (Region x.target.inode x.target.region) region)))
-    (touched.bodies x.path x.target.inode leads))
-    stale.moved
+    (above-version old x.base old.number (Region x.target.inode x.target.region) region))) (touched.bodies x.path x.target.inode leads)) stale.moved

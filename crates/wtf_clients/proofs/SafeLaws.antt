@@ -1,32 +1,11 @@
 -- A line that is no scan and no collection keeps collection safe: what is named then was named, or was just added.
-use Rattle.std.proofs.Common.{◌≡◌, ℕ, ◌<◌, ◌≤◌, Bool, true, false, not, ◌&&◌, ◌||◌, nat_eq, List, [], ◌∷◌, Option, None, Some, refl, sym, ap}
-use Rattle.std.proofs.Common.{◌∙◌, subst, ⊎_elim, arith}
-use Rattle.std.specs.Prelude.{IsTrue}
-use Rattle.std.specs.List.{list_any}
-use Rattle.std.proofs.lemmas.Bool.{cases_Bool, and_parts, and_from, or_parts, both_ways, ltb-true, false≢true}
-use Rattle.wtf_base.specs.declared.ids.InodeId.{InodeId}
-use Rattle.wtf_base.specs.declared.slice.Slice.{Slice}
-use Rattle.wtf_overlay.specs.Origin.{Place}
-use Rattle.wtf_kv.specs.Stores.{is_pinned, is_live}
-use Rattle.wtf_values.specs.declared.key.Key.TheVariants.{Region}
-use Rattle.wtf_values.specs.declared.region.RegionValue.{RegionValue}
-use Rattle.wtf_values.specs.declared.region.Spill.{Spill}
-use Rattle.wtf_values.specs.declared.value.Value.{Value}
-use Rattle.wtf_values.specs.declared.value.Value.TheVariants as value
-use Rattle.wtf_meta.specs.Bytes.{BaseBytes, MaybeBytes, ValueBytes, MapBytes}
-use Rattle.wtf_meta.specs.Contents.{Told, is_told, is_listed, lists_in, list_has}
-use Rattle.wtf_meta.specs.FileEdits.{region_of}
-use Rattle.wtf_meta.specs.Maps.{Map, metadata_at}
-use Rattle.wtf_meta.proofs.ListTests.{has_list}
-use Rattle.wtf_meta.proofs.Telling.{TellsOn, lists_in-later}
-use Rattle.wtf_replay.specs.Views.{TxnView}
-use Rattle.wtf_replay.specs.Insides.{LogBytes, lists_have}
-use Rattle.wtf_compact.specs.Jobs.{JobView, region_in_map}
-use Rattle.wtf_gc.specs.Extents.{extents_cover}
-use Rattle.wtf_gc.specs.Views.{ScanView, RunView, GcView, mark_of, is_garbage}
-use Rattle.wtf_clients.specs.Views.{TablesView, of_client, of_label, was_job}
+use Rattle.wtf_clients.proofs.Common.{IsTrue, and_parts, both_ways, is_pinned, BaseBytes, is_listed, lists_have, is_garbage, TablesView, FollowsTxn, FollowsJob}
+use Rattle.wtf_clients.proofs.Common.{list_any, and_from, or_parts, ltb-true, InodeId, MapBytes, lists_in, list_has, region_of, of_client, NamesNone, last_scan}
+use Rattle.wtf_clients.proofs.Common.{cases_Bool, false≢true, RegionValue, MaybeBytes, ValueBytes, metadata_at, lists_in-later, region_in_map, extents_cover, ℕ}
+use Rattle.wtf_clients.proofs.Common.{Slice, Place, Spill, Value, Map, RunView, GcView, mark_of, was_job, AreUpto, LieIn, IsSafe, false, nat_eq, Option, ⊎_elim}
+use Rattle.wtf_clients.proofs.Common.{is_live, Region, is_told, has_list, TellsOn, TxnView, LogBytes, JobView, ScanView, of_label, is_below, OwnBytes, IsMissed}
+use Rattle.wtf_clients.proofs.Common.{Told, off, Went, ◌≡◌, ◌<◌, ◌≤◌, Bool, true, not, ◌&&◌, ◌||◌, List, [], ◌∷◌, None, Some, refl, sym, ap, ◌∙◌, subst, arith}
 use Rattle.wtf_clients.specs.Named.{ListedBytes}
-use Rattle.wtf_clients.specs.Safe.{off, NamesNone, is_below, last_scan, OwnBytes, IsMissed, AreUpto, LieIn, IsSafe, FollowsTxn, FollowsJob, Went}
 use Rattle.wtf_clients.proofs.ToldLaws.{tables_weaker}
 
 -- ---- sets of places
@@ -35,8 +14,7 @@ pub off_less : (X Y : Place → Bool) → ((p : Place) → Y p ≡ true → X p 
 off_less X Y less [] h = refl
 off_less X Y less (p ∷ ps) h =
     let both = and_parts (not (X p)) (off X ps) h in
-    and_from (not (Y p)) (off Y ps)
-    (⊎_elim (λ here. absurd (both_ways (X p) (not_true (X p) both.0) (less p here))) (λ none. ap not none) (cases_Bool (Y p)))
+    and_from (not (Y p)) (off Y ps) (⊎_elim (λ here. absurd (both_ways (X p) (not_true (X p) both.0) (less p here))) (λ none. ap not none) (cases_Bool (Y p)))
     (off_less X Y less ps both.1)
   where
     not_true : (b : Bool) → not b ≡ true → b ≡ false
@@ -56,8 +34,7 @@ garbage_unnamed size told tables safe =
     let parts = and_parts (is_below g.older p) (not (extents_cover g.older.found p || (extents_cover g.newer.found p || extents_cover g.freed p))) here in
     let none = or_parts (extents_cover g.older.found p) (extents_cover g.newer.found p || extents_cover g.freed p) (not_any _ parts.1) in
     let rest = or_parts (extents_cover g.newer.found p) (extents_cover g.freed p) none.1 in
-    and_from (is_below g.older p) (not (extents_cover g.newer.found p)) parts.0 (ap not rest.0))
-    tables safe.done
+    and_from (is_below g.older p) (not (extents_cover g.newer.found p)) parts.0 (ap not rest.0)) tables safe.done
   where
     not_any : (b : Bool) → not b ≡ true → b ≡ false
     not_any true e = absurd (false≢true e)
@@ -86,11 +63,11 @@ map_region P Q w h i k = by (w (Region i k)) (h (Region i k))
   where
     by : (v : Option Value) → ValueBytes P Q v → MaybeBytes P Q (region_of v)
     by None b = tt
-    by (Some (value.Node n)) b = tt
-    by (Some (value.Names ns)) b = tt
-    by (Some (value.Count n)) b = tt
-    by (Some (value.Last r)) b = tt
-    by (Some (value.Region v)) b = b
+    by (Some (Value.Node n)) b = tt
+    by (Some (Value.Names ns)) b = tt
+    by (Some (Value.Count n)) b = tt
+    by (Some (Value.Last r)) b = tt
+    by (Some (Value.Region v)) b = b
 
 -- ---- a line
 module _ (size : ℕ) (told later : Told) (Added : (List Place → Bool) → Type 0) (length : ℕ → ℕ → ℕ) (old new : TablesView) (on : TellsOn told later)

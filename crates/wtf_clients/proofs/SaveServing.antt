@@ -1,29 +1,10 @@
 -- What a save made of the bytes that the tables name, and of the stores.
-use Rattle.std.proofs.Common.{◌≡◌, ◌≤◌, ℕ, Bool, List, [], length, Some, refl, sym, ap, ◌∙◌, inl, inr}
-use Rattle.wtf_base.specs.declared.fault.Fault.{Fault}
-use Rattle.wtf_base.specs.declared.settings.Settings.{Settings}
-use Rattle.wtf_dev.specs.Each.{EachFollows}
-use Rattle.wtf_dev.specs.Store.{StoreKind, KindLaws}
-use Rattle.wtf_replica.specs.Outs.{SameLengths}
-use Rattle.wtf_replica.specs.Spans.{span}
-use Rattle.wtf_model.specs.declared.answer.Answer.{Answer}
-use Rattle.wtf_model.specs.declared.answer.Answer.TheVariants as answer
-use Rattle.wtf_model.specs.declared.event.Event.TheVariants as event
-use Rattle.wtf_region.specs.Cached.{Remembered}
-use Rattle.wtf_region.specs.Inside.{is_inside}
-use Rattle.wtf_replay.proofs.Insiding.{map_later, inside_later}
-use Rattle.wtf_meta.specs.Bytes.{any_slice}
-use Rattle.wtf_meta.specs.Maps.{metadata_at}
-use Rattle.wtf_clients.specs.Views.{BesideView, TablesView, of_client, of_label}
-use Rattle.wtf_clients.specs.Sounds.{AreSound}
-use Rattle.wtf_clients.specs.Named.{TablesBytes, any_byte, no_slice, has_copies}
-use Rattle.wtf_clients.specs.Asked.{lending, line_asked, HasFailed}
-use Rattle.wtf_clients.specs.Outcomes.{no_load, SaveFault, HasCause}
-use Rattle.wtf_clients.specs.Saves.{with_image, only_image, Saves, SaveTurn}
-use Rattle.wtf_clients.specs.Serves.{NamesTables, AreBased, AreFull, ServesEvent}
-use Rattle.wtf_clients.proofs.Caused.{none_placed, none_added}
-use Rattle.wtf_clients.proofs.Lives.{now_bytes, Reaches, saved_reaches, same_kept, added_kept, only_kept}
-use Rattle.wtf_clients.proofs.Naming.{value_later, now_along, live_along, txn_along}
+use Rattle.wtf_clients.proofs.Common.{Fault, EachFollows, SameLengths, Remembered, inside_later, metadata_at, BesideView, TablesBytes, NamesTables, ServesEvent}
+use Rattle.wtf_clients.proofs.Common.{Settings, KindLaws, of_label, AreSound, any_byte, no_slice, lending, HasFailed, SaveFault, HasCause, SaveTurn, AreBased}
+use Rattle.wtf_clients.proofs.Common.{StoreKind, Answer, is_inside, map_later, any_slice, TablesView, of_client, has_copies, line_asked, with_image, only_image}
+use Rattle.wtf_clients.proofs.Common.{span, Event, no_load, Saves, AreFull, ◌≡◌, ◌≤◌, ℕ, Bool, List, [], length, Some, refl, sym, ap, ◌∙◌, inl, inr}
+use Rattle.wtf_clients.proofs.{Caused.none_placed, Caused.none_added, Lives.now_bytes, Lives.Reaches, Lives.saved_reaches, Lives.same_kept, Lives.added_kept}
+use Rattle.wtf_clients.proofs.{Lives.only_kept, Naming.value_later, Naming.now_along, Naming.live_along, Naming.txn_along}
 
 -- the transactions, the jobs and the maps stay
 saves_names : (old new : TablesView) (now : BesideView) → now.jobs ≡ old.beside.jobs → AreSound old → Reaches old.kv new.kv → Saves old new now
@@ -37,19 +18,19 @@ saves_names old new now jobs sound reach saves P Q hole h = record {
 }
 
 pub save_names : (Up : Type 0) (old new : TablesView) (a : Answer) → AreSound old → SaveTurn Up old new a → NamesTables old new
-save_names Up old new (answer.Saved n) sound (number, up, saves) = saves_names old new (only_image old.beside n) refl sound
+save_names Up old new (Answer.Saved n) sound (number, up, saves) = saves_names old new (only_image old.beside n) refl sound
     (saved_reaches old new (only_image old.beside n) (λ k. only_kept old n k number) saves) saves
-save_names Up old new answer.FaultSave sound (inl saves) = saves_names old new old.beside refl sound (saved_reaches old new old.beside (same_kept old) saves)
+save_names Up old new Answer.FaultSave sound (inl saves) = saves_names old new old.beside refl sound (saved_reaches old new old.beside (same_kept old) saves)
     saves
-save_names Up old new answer.FaultSave sound (inr saves) =
+save_names Up old new Answer.FaultSave sound (inr saves) =
     saves_names old new (with_image old.beside old.kv.number) refl sound (saved_reaches old new (with_image old.beside old.kv.number) (added_kept old) saves)
     saves
 save_names Up old new a sound turn = absurd turn
 
 -- a save answers no other fault
 save_failed : (Up : Type 0) (old new : TablesView) (fails : Fault → Type 0) (a : Answer) → SaveTurn Up old new a → HasFailed fails a
-save_failed Up old new fails (answer.Saved n) turn = tt
-save_failed Up old new fails answer.FaultSave turn = tt
+save_failed Up old new fails (Answer.Saved n) turn = tt
+save_failed Up old new fails Answer.FaultSave turn = tt
 save_failed Up old new fails a turn = absurd turn
 
 module _ {S : Type 0} {kind : StoreKind S} (laws : KindLaws kind) (down : ℕ → Bool) (before after : List S) (goes : EachFollows kind before after [])
@@ -64,14 +45,14 @@ module _ {S : Type 0} {kind : StoreKind S} (laws : KindLaws kind) (down : ℕ �
   }
 
   pub save_serves : (a : Answer) → SaveTurn Up old new a → HasCause kind (span down before after) settings
-      (SaveFault kind (span down before after) settings rose event.Save) (AreBased old) (AreFull settings old) no_load a
-      → (lists : Remembered) → ServesEvent kind (span down before after) (lending settings lists lists) rose (old, new) event.Save a
+      (SaveFault kind (span down before after) settings rose Event.Save) (AreBased old) (AreFull settings old) no_load a
+      → (lists : Remembered) → ServesEvent kind (span down before after) (lending settings lists lists) rose (old, new) Event.Save a
   save_serves a turn caused lists = record {
     inside = save_names Up old new a sound turn (is_inside kind after settings) any_slice refl inside_on;
     bare = λ free. save_names Up old new a sound turn any_byte no_slice refl;
     full = λ free. save_names Up old new a sound turn (has_copies settings.replicas) no_slice refl;
     adds = none_added kind (span down before after) settings a lengths;
     caused = caused;
-    placed = none_placed kind (span down before after) settings (line_asked kind (span down before after) (lending settings lists lists) old event.Save) a refl;
-    failed = save_failed Up old new (line_asked kind (span down before after) (lending settings lists lists) old event.Save).fails a turn;
+    placed = none_placed kind (span down before after) settings (line_asked kind (span down before after) (lending settings lists lists) old Event.Save) a refl;
+    failed = save_failed Up old new (line_asked kind (span down before after) (lending settings lists lists) old Event.Save).fails a turn;
   }

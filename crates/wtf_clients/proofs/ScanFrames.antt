@@ -1,35 +1,16 @@
 -- The tables stay sound where a scan begins, does its parts, or ends, and where garbage is freed.
-use Rattle.std.proofs.Common.{◌≡◌, ℕ, ◌+◌, Bool, true, false, cond, nat_eq, count_by, List, Some, sym, ap, ◌∙◌, subst, ⊎_elim}
-use Rattle.std.proofs.Common.{arith}
-use Rattle.std.specs.Prelude.{IsTrue}
-use Rattle.std.specs.List.{Contains}
-use Rattle.wtf_dev.specs.Store.{StoreKind}
-use Rattle.std.proofs.lemmas.Bool.{cases_lt}
-use Rattle.wtf_kv.specs.Stores.{Store, is_pinned, is_live, times_pinned, map_at}
-use Rattle.wtf_kv.proofs.PinLaws.{any-count, count-any}
-use Rattle.wtf_values.specs.declared.key.Key.{Key}
-use Rattle.wtf_values.specs.declared.value.Value.{Value}
-use Rattle.wtf_values.specs.Keys.{key_cmp}
-use Rattle.wtf_meta.specs.Maps.{AllFit, Map, metadata_at}
-use Rattle.wtf_replay.specs.Views.{TxnView}
-use Rattle.wtf_region.specs.declared.dev.Dev.{Dev}
-use Rattle.wtf_gc.specs.Scans.{undone, run_on, with_run, with_finished}
-use Rattle.wtf_gc.specs.Views.{RunView, GcView}
-use Rattle.wtf_clients.specs.Views.{BesideView, TablesView, of_client}
-use Rattle.wtf_clients.specs.Sounds.{all_owned, all_kept, all_seen, all_planned, all_watched, AreSound}
-use Rattle.wtf_clients.specs.ScanTurns.{StartsTurn, DoesTurn, KeepsStore}
-use Rattle.wtf_clients.proofs.Lives.{live_cases, live_upto, pinned_live, number_live}
-use Rattle.wtf_clients.proofs.Pins.{base_pinned}
-use Rattle.wtf_clients.specs.Views.{of_label}
+use Rattle.wtf_clients.proofs.Common.{IsTrue, is_live, map_at, key_cmp, AllFit, TxnView, undone, run_on, RunView, AreSound, DoesTurn, of_label, false, count_by}
+use Rattle.wtf_clients.proofs.Common.{Contains, StoreKind, cases_lt, is_pinned, any-count, count-any, Value, with_run, of_client, all_owned, all_kept, all_seen}
+use Rattle.wtf_clients.proofs.Common.{Store, times_pinned, metadata_at, with_finished, BesideView, TablesView, all_planned, all_watched, StartsTurn, KeepsStore}
+use Rattle.wtf_clients.proofs.Common.{Key, Map, Dev, GcView, ◌≡◌, ℕ, ◌+◌, Bool, true, cond, nat_eq, List, Some, sym, ap, ◌∙◌, subst, ⊎_elim, arith}
+use Rattle.wtf_clients.proofs.{Lives.live_cases, Lives.live_upto, Lives.pinned_live, Lives.number_live, Pins.base_pinned}
 
 -- Tables of which only the scans and the store differ: the number stays, each number that is pinned is owned, and the map at each that is
 -- pinned is what it was.
-pub sound_scanned : (old new : TablesView) → AreSound old → new.kv.number ≡ old.kv.number
-    → ((n : ℕ) → IsTrue (is_pinned new.kv n) → IsTrue (is_live old.kv n))
+pub sound_scanned : (old new : TablesView) → AreSound old → new.kv.number ≡ old.kv.number → ((n : ℕ) → IsTrue (is_pinned new.kv n) → IsTrue (is_live old.kv n))
     → ((n : ℕ) → IsTrue (is_live old.kv n) → metadata_at new.kv n ≡ metadata_at old.kv n)
     → ((n : ℕ) → times_pinned new.kv n ≡ all_owned n new.clients + all_kept n new.beside)
-    → new.clients ≡ old.clients → new.next_tx ≡ old.next_tx → new.beside.images ≡ old.beside.images
-    → new.beside.jobs ≡ old.beside.jobs → AreSound new
+    → new.clients ≡ old.clients → new.next_tx ≡ old.next_tx → new.beside.images ≡ old.beside.images → new.beside.jobs ≡ old.beside.jobs → AreSound new
 sound_scanned old new sound number reach maps pins clients next images jobs =
     let was : (c : ℕ) (x : TxnView) → of_client new.clients c ≡ Some x → of_client old.clients c ≡ Some x =
     λ c x there. ap (λ l. of_client l c) (sym clients) ∙ there in
@@ -103,8 +84,7 @@ module _ {S : Type 0} (kind : StoreKind S) (shelf : List S) (old new : TablesVie
       let watched : all_watched n new.beside.watched ≡ all_watched n old.beside.watched =
       ap (λ (b : BesideView). all_watched n b.watched) turn.beside in
       omega (arith, more, was, own, images, jobs, seen, none, watched))
-      turn.clients turn.next_tx (ap (λ (b : BesideView). b.images) turn.beside)
-      (ap (λ (b : BesideView). b.jobs) turn.beside)
+      turn.clients turn.next_tx (ap (λ (b : BesideView). b.images) turn.beside) (ap (λ (b : BesideView). b.jobs) turn.beside)
 
 -- freeing changes none of it
 pub free_sound : (old new : TablesView) → AreSound old → KeepsStore old new → new.beside.gc.running ≡ old.beside.gc.running → AreSound new
@@ -123,8 +103,7 @@ free_sound old new sound keeps running =
     let watched : all_watched n new.beside.watched ≡ all_watched n old.beside.watched =
     ap (λ (b : BesideView). all_watched n b.watched) keeps.keeps.beside in
     omega (arith, same, was, own, images, jobs, seen, watched))
-    keeps.keeps.clients keeps.keeps.next_tx (ap (λ (b : BesideView). b.images) keeps.keeps.beside)
-    (ap (λ (b : BesideView). b.jobs) keeps.keeps.beside)
+    keeps.keeps.clients keeps.keeps.next_tx (ap (λ (b : BesideView). b.images) keeps.keeps.beside) (ap (λ (b : BesideView). b.jobs) keeps.keeps.beside)
 
 -- ---- parts
 -- what the pins of a scan are once parts are done: its own, or, where none is left, undone
@@ -170,5 +149,4 @@ module _ {S : Type 0} (kind : StoreKind S) (before after : Dev S) (old new : Tab
       let watched : all_watched m new.beside.watched ≡ all_watched m old.beside.watched =
       ap (λ (b : BesideView). all_watched m b.watched) turn.keeps.beside in
       omega (arith, less, was, own, images, jobs, now, kept, had, watched))
-      turn.keeps.clients turn.keeps.next_tx (ap (λ (b : BesideView). b.images) turn.keeps.beside)
-      (ap (λ (b : BesideView). b.jobs) turn.keeps.beside)
+      turn.keeps.clients turn.keeps.next_tx (ap (λ (b : BesideView). b.images) turn.keeps.beside) (ap (λ (b : BesideView). b.jobs) turn.keeps.beside)

@@ -1,43 +1,11 @@
 -- Scans and collections keep collection safe: what a scan sees when it begins, what its parts find, and what is freed.
-use Rattle.std.proofs.Common.{◌≡◌, ℕ, Bool, true, false, not, ◌&&◌, List, Option, None, Some, is_some, refl}
-use Rattle.std.proofs.Common.{sym, ap, ◌∙◌, subst, arith}
-use Rattle.std.specs.Prelude.{IsTrue}
-use Rattle.std.proofs.lemmas.Bool.{true≢false}
-use Rattle.std.proofs.lemmas.List.Elements.{All-weaker}
-use Rattle.wtf_base.specs.declared.ids.InodeId.{InodeId}
-use Rattle.wtf_base.specs.declared.slice.Slice.{Slice}
-use Rattle.wtf_dev.specs.Store.{StoreKind}
-use Rattle.wtf_overlay.specs.Origin.{Place, part_origin}
-use Rattle.wtf_overlay.specs.declared.part.Part.TheVariants.{Held}
-use Rattle.wtf_kv.specs.Stores.{Store, is_live}
-use Rattle.wtf_values.specs.declared.key.Key.{Key}
-use Rattle.wtf_values.specs.declared.key.Key.TheVariants as key
-use Rattle.wtf_values.specs.declared.region.RegionValue.{RegionValue}
-use Rattle.wtf_values.specs.declared.value.Value.{Value}
-use Rattle.wtf_values.specs.declared.value.Value.TheVariants as value
-use Rattle.wtf_meta.specs.Bytes.{MaybeBytes, ValueBytes, MapBytes, any_slice}
-use Rattle.wtf_meta.specs.Contents.{Told}
-use Rattle.wtf_meta.specs.FileEdits.{region_of}
-use Rattle.wtf_meta.specs.Maps.{Map, metadata_at}
-use Rattle.wtf_log.specs.Calls.{own_of}
-use Rattle.wtf_meta.proofs.Weaker.{base_stays}
-use Rattle.wtf_rw.specs.Stored.{SliceBytes}
-use Rattle.wtf_replay.specs.Views.{TxnView}
-use Rattle.wtf_replay.specs.Insides.{LogBytes, lists_have}
-use Rattle.wtf_compact.specs.Jobs.{JobView, region_in_map, target_region}
-use Rattle.wtf_gc.specs.Extents.{extents_cover}
-use Rattle.wtf_gc.specs.Views.{ScanView, RunView, GcView}
-use Rattle.wtf_clients.specs.Views.{TablesView, BesideView, of_client, of_label, was_job}
-use Rattle.wtf_clients.specs.Sounds.{AreSound}
-use Rattle.wtf_clients.specs.Serves.{NamesTables}
-use Rattle.wtf_clients.specs.Standing.{HasKinds, is_region_key}
-use Rattle.wtf_clients.specs.ScanTurns.{StartsTurn}
-use Rattle.wtf_clients.specs.Safe.{off, NamesNone, is_below, scan_of, last_scan, OwnBytes, IsOwnTxn, IsOwnJob, IsMissed, IsSafe}
-use Rattle.wtf_clients.proofs.JobPins.{job_pinned}
-use Rattle.wtf_clients.proofs.Lives.{pinned_live}
-use Rattle.wtf_clients.proofs.Naming.{txn_along}
-use Rattle.wtf_clients.proofs.Pins.{base_pinned}
-use Rattle.wtf_clients.proofs.SafeLaws.{off_less, map_region}
+use Rattle.wtf_clients.proofs.Common.{IsTrue, true≢false, All-weaker, InodeId, Slice, StoreKind, Place, part_origin, Held, Store, is_live, Key, RegionValue}
+use Rattle.wtf_clients.proofs.Common.{Value, MaybeBytes, ValueBytes, MapBytes, any_slice, Told, region_of, Map, metadata_at, own_of, base_stays, SliceBytes}
+use Rattle.wtf_clients.proofs.Common.{TxnView, LogBytes, lists_have, JobView, region_in_map, target_region, extents_cover, ScanView, RunView, GcView}
+use Rattle.wtf_clients.proofs.Common.{TablesView, BesideView, of_client, of_label, was_job, AreSound, NamesTables, HasKinds, is_region_key, StartsTurn, off}
+use Rattle.wtf_clients.proofs.Common.{NamesNone, is_below, scan_of, last_scan, OwnBytes, IsOwnTxn, IsOwnJob, IsMissed, IsSafe, ◌≡◌, ℕ, Bool, true, false, not}
+use Rattle.wtf_clients.proofs.Common.{◌&&◌, List, Option, None, Some, is_some, refl, sym, ap, ◌∙◌, subst, arith}
+use Rattle.wtf_clients.proofs.{JobPins.job_pinned, Lives.pinned_live, Naming.txn_along, Pins.base_pinned, SafeLaws.off_less, SafeLaws.map_region}
 
 -- ---- maps
 -- what holds of each region of a map holds of all of it, where only regions name bytes
@@ -46,26 +14,23 @@ keys_bytes P Q w kinds regions q = by q (w q) refl
   where
     of_region : (v : Option Value) → MaybeBytes P Q (region_of v) → ValueBytes P Q v
     of_region None h = tt
-    of_region (Some (value.Node n)) h = tt
-    of_region (Some (value.Names ns)) h = tt
-    of_region (Some (value.Count n)) h = tt
-    of_region (Some (value.Last r)) h = tt
-    of_region (Some (value.Region v)) h = h
+    of_region (Some (Value.Node n)) h = tt
+    of_region (Some (Value.Names ns)) h = tt
+    of_region (Some (Value.Count n)) h = tt
+    of_region (Some (Value.Last r)) h = tt
+    of_region (Some (Value.Region v)) h = h
 
     no_region : (r : Key) (v : Option Value) → w r ≡ v → is_region_key r ≡ false → ValueBytes P Q v
     no_region r None is none = tt
-    no_region r (Some (value.Node n)) is none = tt
-    no_region r (Some (value.Names ns)) is none = tt
-    no_region r (Some (value.Count n)) is none = tt
-    no_region r (Some (value.Last l)) is none = tt
-    no_region r (Some (value.Region v)) is none = absurd (true≢false (sym (kinds r v is) ∙ none))
+    no_region r (Some (Value.Node n)) is none = tt
+    no_region r (Some (Value.Names ns)) is none = tt
+    no_region r (Some (Value.Count n)) is none = tt
+    no_region r (Some (Value.Last l)) is none = tt
+    no_region r (Some (Value.Region v)) is none = absurd (true≢false (sym (kinds r v is) ∙ none))
 
     by : (r : Key) (v : Option Value) → w r ≡ v → ValueBytes P Q v
-    by (key.Path p) v is = no_region (key.Path p) v is refl
-    by (key.Dir p) v is = no_region (key.Dir p) v is refl
-    by (key.Inode i) v is = no_region (key.Inode i) v is refl
-    by (key.Links i) v is = no_region (key.Links i) v is refl
-    by (key.Region i k) v is = of_region v (subst (λ o. MaybeBytes P Q (region_of o)) is (regions i k))
+    by (Key.Region i k) v is = of_region v (subst (λ o. MaybeBytes P Q (region_of o)) is (regions i k))
+    by e v is = no_region e v is refl
 
 -- a transaction or a job whose map at its base stays names still only what is its own
 pub own_txn_along : (size : ℕ) (told : Told) (kv after : Store Key Value) (x : TxnView) → metadata_at after x.at.base ≡ metadata_at kv x.at.base
@@ -153,14 +118,12 @@ module _ {S : Type 0} (kind : StoreKind S) (shelf : List S) (size : ℕ) (told :
       let Q : Slice → Bool = lists_have size told P in
       let all_left = turn.starts.left in
       let at : (n : ℕ) → IsTrue (is_live old.kv n) → MapBytes P Q (metadata_at old.kv n) = λ n is. keys_bytes P Q (metadata_at old.kv n) (kinds n is) (λ i k.
-      subst (λ (w : Map). MaybeBytes P Q (region_in_map w i k)) (maps n is)
-      (m.ahead n (turn.starts.seen n ∙ is) i k (omega (arith, all_left)))) in
+      subst (λ (w : Map). MaybeBytes P Q (region_in_map w i k)) (maps n is) (m.ahead n (turn.starts.seen n ∙ is) i k (omega (arith, all_left)))) in
       record {
         live = at;
         each = λ c x there.
             safe.own_txns c x there P refl (at x.at.base (txn_live old c x sound there))
-            (log_stays (off (is_below (last_scan old.beside.gc))) P (off_newer X m.below) x
-            (safe.since_txns c x there (turn.no_txn c x there)));
+            (log_stays (off (is_below (last_scan old.beside.gc))) P (off_newer X m.below) x (safe.since_txns c x there (turn.no_txn c x there)));
         planned = λ j x there.
             safe.own_jobs j x there P refl
             (map_region P Q (metadata_at old.kv x.base) (at x.base (job_live old j x sound there)) x.target.inode x.target.region)

@@ -1,49 +1,16 @@
 -- Lines of scans and collections over the machine: it allows what they answer, and the tables stand for what it is then.
-use Rattle.std.proofs.Common.{◌≡◌, ℕ, ◌+◌, ◌-◌, ◌^◌, ◌<◌, ◌≤◌, Bool, true, false, cond, T, ◌||◌, ◌==◌, nat_eq, nat_lt, List, [], ◌∷◌, map, min, Option, None}
-use Rattle.std.proofs.Common.{Some, is_some, slice_index_or, zero, suc, refl, sym, ap, ◌∙◌, subst, inl, inr, ⊎_elim, arith}
-use Rattle.std.specs.Prelude.{IsTrue, if◌then◌else◌}
-use Rattle.std.specs.FinMap.{get, entries, entries_sorted, get-entries}
-use Rattle.std.specs.FinMap.Entries.{find, is_sorted}
-use Rattle.std.specs.List.{Contains, list_any}
-use Rattle.std.specs.Option.{option_map}
-use Rattle.std.specs.Ordering.{nat_cmp, eq_by_cmp}
-use Rattle.std.proofs.lemmas.Bool.{cases_Bool, or_cases, or_left, or_right, eq-eqb, eqb-true, ne_eqb, lt-ltb, le-ltb, true≢false}
-use Rattle.std.proofs.lemmas.List.Folds.{list_any-append}
-use Rattle.wtf_dev.specs.Store.{StoreKind, KindLaws}
-use Rattle.wtf_kv.specs.Stores.{Store, is_live}
-use Rattle.wtf_values.specs.declared.key.Key.{Key}
-use Rattle.wtf_values.specs.declared.value.Value.{Value}
-use Rattle.wtf_model.specs.declared.answer.Answer.{Answer}
-use Rattle.wtf_model.specs.declared.answer.Answer.TheVariants as answer
-use Rattle.wtf_model.specs.declared.answer.Word.{Word}
-use Rattle.wtf_model.specs.declared.answer.Word.TheVariants.{NoServer, ScanBusy, NoScan}
-use Rattle.wtf_model.specs.declared.event.Event.TheVariants as event
-use Rattle.wtf_model.specs.declared.limits.TheConstants.{SCAN_PARTS}
-use Rattle.wtf_model.specs.Lawful.{IsReadFault, May}
-use Rattle.wtf_model.specs.Machines.{Machine}
-use Rattle.wtf_model.specs.Scans.{open_stamps, held_by, or_held, piece_answer, MayFailPiece, collect_refusal, MayCollect}
-use Rattle.wtf_model.specs.Steps.{scanning, scanned}
-use Rattle.wtf_model.specs.Transaction.{Transaction, Job}
-use Rattle.wtf_model.proofs.ScanLaws.{scan_due, piece_due, piece_more, piece_done}
-use Rattle.wtf_meta.specs.Bytes.{any_slice}
-use Rattle.wtf_meta.specs.Contents.{Told}
-use Rattle.wtf_meta.specs.Maps.{Map, metadata_at}
-use Rattle.wtf_region.specs.declared.dev.Dev.{Dev}
-use Rattle.wtf_region.specs.Devs.{IsSoundDev, stores}
-use Rattle.wtf_region.specs.Inside.{is_inside}
-use Rattle.wtf_replay.specs.Views.{TxnView}
-use Rattle.wtf_gc.specs.Scans.{run_on, with_finished}
-use Rattle.wtf_gc.specs.Views.{RunView, GcView}
-use Rattle.wtf_clients.specs.Views.{TablesView, BesideView, of_client, of_label}
-use Rattle.wtf_clients.specs.Sounds.{AreSound}
-use Rattle.wtf_clients.specs.Named.{TablesBytes}
-use Rattle.wtf_clients.specs.Standing.{TablesStand, StampsStand, HasKinds, ScansStand}
-use Rattle.wtf_clients.specs.ScanTurns.{StartsTurn, ScanTurn, IsPruned, KeepsBut, DoesTurn, PieceFails, PieceTurn, KeepsStore, CollectTurn}
-use Rattle.wtf_clients.proofs.HoldLaws.{some_same, at_front, tail_of, behind, txn_of, label_of, held_is, none_held}
-use Rattle.wtf_clients.proofs.Making.{at_none, at_some}
-use Rattle.wtf_clients.proofs.PieceServing.{piece_known}
-use Rattle.wtf_clients.proofs.ScanFrames.{start_reads, start_maps, does_reads}
-use Rattle.wtf_clients.proofs.Scanning.{pruned_live}
+use Rattle.wtf_clients.proofs.Common.{IsTrue, eq-eqb, ne_eqb, lt-ltb, le-ltb, Store, Answer, NoScan, run_on, GcView, nat_eq, nat_lt, Option, is_some, ⊎_elim}
+use Rattle.wtf_clients.proofs.Common.{if◌then◌else◌, entries_sorted, get-entries, list_any-append, piece_answer, collect_refusal, with_finished, slice_index_or}
+use Rattle.wtf_clients.proofs.Common.{get, Key, Value, Word, Event, May, Told, Bool, true, false, cond, ◌||◌, ◌==◌, List, None, Some, zero, refl, subst, arith}
+use Rattle.wtf_clients.proofs.Common.{entries, nat_cmp, or_left, is_live, Machine, held_by, or_held, scanned, TxnView, RunView, IsPruned, KeepsBut, DoesTurn}
+use Rattle.wtf_clients.proofs.Common.{find, option_map, IsReadFault, open_stamps, MayFailPiece, Transaction, metadata_at, TablesStand, StampsStand, CollectTurn}
+use Rattle.wtf_clients.proofs.Common.{is_sorted, Contains, list_any, eq_by_cmp, StoreKind, piece_due, of_client, StartsTurn, PieceFails, PieceTurn, KeepsStore}
+use Rattle.wtf_clients.proofs.Common.{cases_Bool, true≢false, SCAN_PARTS, MayCollect, piece_more, piece_done, IsSoundDev, TablesView, BesideView, ScansStand, ℕ}
+use Rattle.wtf_clients.proofs.Common.{or_cases, or_right, eqb-true, KindLaws, NoServer, ScanBusy, scanning, scan_due, of_label, AreSound, HasKinds, ScanTurn, T}
+use Rattle.wtf_clients.proofs.Common.{Job, Map, Dev, ◌≡◌, ◌+◌, ◌-◌, ◌^◌, ◌<◌, ◌≤◌, [], ◌∷◌, map, min, suc, sym, ap, ◌∙◌, inl, inr}
+use Rattle.wtf_clients.proofs.{Lives.AreInside, HoldLaws.some_same, HoldLaws.at_front, HoldLaws.tail_of, HoldLaws.behind, HoldLaws.txn_of, HoldLaws.label_of}
+use Rattle.wtf_clients.proofs.{HoldLaws.held_is, HoldLaws.none_held, Making.at_none, Making.at_some, PieceServing.piece_known, ScanFrames.start_reads}
+use Rattle.wtf_clients.proofs.{ScanFrames.start_maps, ScanFrames.does_reads, Scanning.pruned_live}
 
 -- ---- what stays
 -- whoever is open is as old as before
@@ -112,8 +79,7 @@ module _ {X : Type 0} (f : X → ℕ) where
       let same : e.1 ≡ v = some_same e.1 v (sym (ap (λ b. cond b (Some e.1) (find nat_cmp c es)) here) ∙ is) in
       or_left (f e.1 == f v) (list_any (λ s. s == f v) (all_of es)) (eq-eqb (f e.1) (f v) (ap f same)))
       (λ past.
-      or_right (f e.1 == f v) (list_any (λ s. s == f v) (all_of es))
-      (any_found es c v (sym (ap (λ b. cond b (Some e.1) (find nat_cmp c es)) past) ∙ is)))
+      or_right (f e.1 == f v) (list_any (λ s. s == f v) (all_of es)) (any_found es c v (sym (ap (λ b. cond b (Some e.1) (find nat_cmp c es)) past) ∙ is)))
       (cases_Bool (eq_by_cmp nat_cmp c e.0))
 
   -- and there is no other
@@ -138,11 +104,11 @@ module _ {S : Type 0} (kind : StoreKind S) (shelf : List S) (size : ℕ) (told :
   busy None some = some
   busy (Some r) some = refl
 
-  pub scan_may : (a : Answer) → ScanTurn kind shelf old new a → May m event.Scan a
-  scan_may (answer.Refused ScanBusy) h =
-      sym (ap (λ b. if b then answer.Refused ScanBusy else or_held (held_by m)) (ap is_some st.parts ∙ busy old.beside.gc.running h.1))
-  scan_may (answer.Held x) h = sym (scan_due m (Some x) (none_left h.1) (held_is size told old m stand sound st.stamps x h.2))
-  scan_may answer.Scanning h = sym (scan_due m None (none_left h.free) (none_held size told old m stand sound st.stamps h.no_txn h.no_job))
+  pub scan_may : (a : Answer) → ScanTurn kind shelf old new a → May m Event.Scan a
+  scan_may (Answer.Refused ScanBusy) h =
+      sym (ap (λ b. if b then Answer.Refused ScanBusy else or_held (held_by m)) (ap is_some st.parts ∙ busy old.beside.gc.running h.1))
+  scan_may (Answer.Held x) h = sym (scan_due m (Some x) (none_left h.1) (held_is size told old m stand sound st.stamps x h.2))
+  scan_may Answer.Scanning h = sym (scan_due m None (none_left h.free) (none_held size told old m stand sound st.stamps h.no_txn h.no_job))
   scan_may a h = absurd h
 
   -- ---- one that begins
@@ -190,7 +156,7 @@ module _ {S : Type 0} (kind : StoreKind S) (shelf : List S) (size : ℕ) (told :
     txn_was : (c : ℕ) (x : TxnView) → of_client new.clients c ≡ Some x → of_client old.clients c ≡ Some x
     txn_was c x there = ap (λ l. of_client l c) (sym h.clients) ∙ there
 
-    started_stamps : StampsStand new (scanning m answer.Scanning)
+    started_stamps : StampsStand new (scanning m Answer.Scanning)
     started_stamps = record {
       listed = noted_upto;
       begun = let scan = h.scan_tx in let next = h.next_tx in omega (arith, scan, next);
@@ -205,7 +171,7 @@ module _ {S : Type 0} (kind : StoreKind S) (shelf : List S) (size : ℕ) (told :
           ((st.stamps.jobs j x t was is).0, job_noted j t is ∙ sym (h.scan_jobs j ∙ ap is_some was));
     }
 
-    pub started_stands : ScansStand new (scanning m answer.Scanning)
+    pub started_stands : ScansStand new (scanning m Answer.Scanning)
     started_stands =
         let left : SCAN_PARTS ≡ h.starts.run.left = sym h.starts.left in
         record {
@@ -222,9 +188,9 @@ module _ {S : Type 0} (kind : StoreKind S) (shelf : List S) (size : ℕ) (told :
         }
 
   pub scan_stands : (a : Answer) → ScanTurn kind shelf old new a → ScansStand new (scanning m a)
-  scan_stands (answer.Refused ScanBusy) h = subst (λ (t : TablesView). ScansStand t m) (sym h.0) st
-  scan_stands (answer.Held x) h = subst (λ (t : TablesView). ScansStand t m) (sym h.0) st
-  scan_stands answer.Scanning h = started_stands h
+  scan_stands (Answer.Refused ScanBusy) h = subst (λ (t : TablesView). ScansStand t m) (sym h.0) st
+  scan_stands (Answer.Held x) h = subst (λ (t : TablesView). ScansStand t m) (sym h.0) st
+  scan_stands Answer.Scanning h = started_stands h
   scan_stands a h = absurd h
 
 -- ---- parts of a scan
@@ -234,7 +200,7 @@ module _ {S : Type 0} (kind : StoreKind S) (before after : Dev S) (old new : Tab
     parts_of o is = st.parts ∙ ap (option_map (λ (r : RunView). r.left)) is
 
     may_fail : (a : Answer) → IsReadFault m.settings.servers a → (b : Bool) (left : ℕ)
-        → MayFailPiece m.settings.servers (if b then answer.More left else answer.Done) a
+        → MayFailPiece m.settings.servers (if b then Answer.More left else Answer.Done) a
     may_fail a fault true left = fault
     may_fail a fault false left = fault
 
@@ -245,23 +211,22 @@ module _ {S : Type 0} (kind : StoreKind S) (before after : Dev S) (old new : Tab
         by : (o : Option RunView) → old.beside.gc.running ≡ o → is_some o ≡ true → MayFailPiece m.settings.servers (piece_answer k m.parts_left) a
         by None is some = absurd (true≢false (sym some))
         by (Some r) is some =
-            subst (λ o. MayFailPiece m.settings.servers (piece_answer k o) a) (sym (parts_of (Some r) is))
-            (may_fail a fault (nat_lt k r.left) (r.left - k))
+            subst (λ o. MayFailPiece m.settings.servers (piece_answer k o) a) (sym (parts_of (Some r) is)) (may_fail a fault (nat_lt k r.left) (r.left - k))
 
     -- where a fault of a list is one of a server that is there
     may_by : ((a : Answer) → PieceFails kind before after old new k a → IsReadFault m.settings.servers a) → (a : Answer)
-        → PieceTurn kind before after old new k a → May m (event.Piece k) a
-    may_by known (answer.Refused NoScan) h = inl (sym (piece_due m k None (answer.Refused NoScan) (parts_of None h.2) refl))
-    may_by known (answer.More left) h =
+        → PieceTurn kind before after old new k a → May m (Event.Piece k) a
+    may_by known (Answer.Refused NoScan) h = inl (sym (piece_due m k None (Answer.Refused NoScan) (parts_of None h.2) refl))
+    may_by known (Answer.More left) h =
         let run = h.1.does.run in
         let some = h.0 in
         let is = h.1.does.left_is in
-        inl (sym (piece_due m k (Some run.left) (answer.More left) (parts_of (Some run) h.1.does.was)
-        (piece_more k run.left (omega (arith, some, is)) ∙ ap (λ n. answer.More n) (sym is))))
-    may_by known answer.Done h =
+        inl (sym (piece_due m k (Some run.left) (Answer.More left) (parts_of (Some run) h.1.does.was)
+        (piece_more k run.left (omega (arith, some, is)) ∙ ap (λ n. Answer.More n) (sym is))))
+    may_by known Answer.Done h =
         let run = h.does.run in
         let is = h.does.left_is in
-        inl (sym (piece_due m k (Some run.left) answer.Done (parts_of (Some run) h.does.was) (piece_done k run.left (omega (arith, is)))))
+        inl (sym (piece_due m k (Some run.left) Answer.Done (parts_of (Some run) h.does.was) (piece_done k run.left (omega (arith, is)))))
     may_by known a f = inr (failed_may a f (known a f))
 
     -- ---- parts that were done
@@ -312,15 +277,15 @@ module _ {S : Type 0} (kind : StoreKind S) (before after : Dev S) (old new : Tab
           nothing r e = cc
 
     pub piece_stands : AreSound old → (a : Answer) → PieceTurn kind before after old new k a → ScansStand new (scanned m a)
-    piece_stands sound (answer.Refused NoScan) h = subst (λ (t : TablesView). ScansStand t m) (sym h.0) st
-    piece_stands sound (answer.More left) h = more_stands left sound h.1 h.0
-    piece_stands sound answer.Done h = ended_stands 0 sound h refl
+    piece_stands sound (Answer.Refused NoScan) h = subst (λ (t : TablesView). ScansStand t m) (sym h.0) st
+    piece_stands sound (Answer.More left) h = more_stands left sound h.1 h.0
+    piece_stands sound Answer.Done h = ended_stands 0 sound h refl
     piece_stands sound a f = pruned_stands old new m st f.pruned
 
 -- the machine allows what they answer
 pub piece_may : {S : Type 0} {kind : StoreKind S} → KindLaws kind → (before after : Dev S) → IsSoundDev kind before → (old new : TablesView)
-    → TablesBytes (is_inside kind (stores before) before.settings) any_slice old → (k : ℕ) (m : Machine) → ScansStand old m
-    → m.settings ≡ before.settings → (a : Answer) → PieceTurn kind before after old new k a → May m (event.Piece k) a
+    → AreInside kind before old → (k : ℕ) (m : Machine) → ScansStand old m
+    → m.settings ≡ before.settings → (a : Answer) → PieceTurn kind before after old new k a → May m (Event.Piece k) a
 piece_may {kind = kind} laws before after lent old new inside k m st settings a turn =
     may_by kind before after old new k m st
     (λ b f. subst (λ s. IsReadFault s.servers b) (sym settings)
@@ -332,7 +297,7 @@ refused server few = if server then (if few then Some NoScan else None) else Som
 
 module _ {S : Type 0} (kind : StoreKind S) (before after : Dev S) (old new : TablesView) (k : ℕ) where
   module _ (m : Machine) (st : ScansStand old m) where
-    pub collect_may : m.settings ≡ before.settings → (a : Answer) → CollectTurn kind before after old new k a → May m (event.Collect k) a
+    pub collect_may : m.settings ≡ before.settings → (a : Answer) → CollectTurn kind before after old new k a → May m (Event.Collect k) a
     collect_may settings a h = by a h
       where
         servers : m.settings.servers ≡ before.settings.servers
@@ -347,19 +312,19 @@ module _ {S : Type 0} (kind : StoreKind S) (before after : Dev S) (old new : Tab
             let scans = st.scans in
             ap (λ b. refused b (nat_lt m.scans 2)) (there lt) ∙ ap (refused true) (le-ltb m.scans 2 (omega (arith, scans, twice)))
 
-        by : (b : Answer) → CollectTurn kind before after old new k b → May m (event.Collect k) b
-        by (answer.Refused NoServer) g =
-            at_some (collect_refusal m k) NoServer (MayCollect k (answer.Refused NoServer)) (λ w. answer.Refused NoServer ≡ answer.Refused w)
+        by : (b : Answer) → CollectTurn kind before after old new k b → May m (Event.Collect k) b
+        by (Answer.Refused NoServer) g =
+            at_some (collect_refusal m k) NoServer (MayCollect k (Answer.Refused NoServer)) (λ w. Answer.Refused NoServer ≡ Answer.Refused w)
             (ap (λ b. refused b (nat_lt m.scans 2)) (le-ltb k m.settings.servers (let same = servers in let le = g.2 in omega (arith, le, same)))) refl
-        by (answer.Refused NoScan) g =
+        by (Answer.Refused NoScan) g =
             let scans = st.scans in
             let few = g.3 in
-            at_some (collect_refusal m k) NoScan (MayCollect k (answer.Refused NoScan)) (λ w. answer.Refused NoScan ≡ answer.Refused w)
+            at_some (collect_refusal m k) NoScan (MayCollect k (Answer.Refused NoScan)) (λ w. Answer.Refused NoScan ≡ Answer.Refused w)
             (ap (λ b. refused b (nat_lt m.scans 2)) (there g.2) ∙ ap (refused true) (lt-ltb m.scans 2 (omega (arith, scans, few)))) refl
-        by (answer.Collected n) g =
-            at_none (collect_refusal m k) (MayCollect k (answer.Collected n)) (λ w. answer.Collected n ≡ answer.Refused w) (free g.0 g.1.twice) tt
-        by (answer.FaultPunch j) g =
-            at_none (collect_refusal m k) (MayCollect k (answer.FaultPunch j)) (λ w. answer.FaultPunch j ≡ answer.Refused w) (free g.0 g.1.twice) g.1.server
+        by (Answer.Collected n) g =
+            at_none (collect_refusal m k) (MayCollect k (Answer.Collected n)) (λ w. Answer.Collected n ≡ Answer.Refused w) (free g.0 g.1.twice) tt
+        by (Answer.FaultPunch j) g =
+            at_none (collect_refusal m k) (MayCollect k (Answer.FaultPunch j)) (λ w. Answer.FaultPunch j ≡ Answer.Refused w) (free g.0 g.1.twice) g.1.server
         by b g = absurd g
 
     freed_stands : KeepsStore old new → new.beside.gc.running ≡ old.beside.gc.running → new.beside.gc.finished ≡ old.beside.gc.finished → ScansStand new m
@@ -369,8 +334,8 @@ module _ {S : Type 0} (kind : StoreKind S) (before after : Dev S) (old new : Tab
         (λ n live. ap (λ (s : Store Key Value). metadata_at s n) keeps.kv)
 
     pub collect_stands : (a : Answer) → CollectTurn kind before after old new k a → ScansStand new m
-    collect_stands (answer.Refused NoServer) h = subst (λ (t : TablesView). ScansStand t m) (sym h.0) st
-    collect_stands (answer.Refused NoScan) h = subst (λ (t : TablesView). ScansStand t m) (sym h.0) st
-    collect_stands (answer.Collected n) h = freed_stands h.1.keeps h.1.frees.counts.running h.1.frees.counts.finished
-    collect_stands (answer.FaultPunch j) h = freed_stands h.1.keeps h.1.frees.counts.running h.1.frees.counts.finished
+    collect_stands (Answer.Refused NoServer) h = subst (λ (t : TablesView). ScansStand t m) (sym h.0) st
+    collect_stands (Answer.Refused NoScan) h = subst (λ (t : TablesView). ScansStand t m) (sym h.0) st
+    collect_stands (Answer.Collected n) h = freed_stands h.1.keeps h.1.frees.counts.running h.1.frees.counts.finished
+    collect_stands (Answer.FaultPunch j) h = freed_stands h.1.keeps h.1.frees.counts.running h.1.frees.counts.finished
     collect_stands a h = absurd h

@@ -1,47 +1,15 @@
 -- What pieces of scans, and collections, made of the bytes that the tables name, and of the stores.
-use Rattle.std.proofs.Common.{◌≡◌, ℕ, ◌+◌, ◌<◌, Bool, true, ◌&&◌, nat_eq, nat_le, nat_lt, List, [], ◌∷◌, ◌++◌, length, Some}
-use Rattle.std.proofs.Common.{refl, sym, ap, ◌∙◌, subst, inl, inr, arith}
-use Rattle.std.proofs.lemmas.Bool.{and_from, and_parts, or_left, or_right, eq-eqb, le-leb, lt-ltb}
-use Rattle.std.proofs.lemmas.List.Folds.{list_any-append}
-use Rattle.wtf_base.specs.declared.fault.Fault.{Fault}
-use Rattle.wtf_base.specs.declared.fault.Fault.TheVariants as fault
-use Rattle.wtf_dev.specs.Each.{EachFollows}
-use Rattle.wtf_dev.specs.Store.{Range, StoreKind, KindLaws}
-use Rattle.wtf_dev.proofs.Each.{each_on}
-use Rattle.wtf_overlay.specs.Origin.{Place}
-use Rattle.wtf_ring.specs.Points.{IsRing}
-use Rattle.wtf_replica.specs.Downs.{is_down}
-use Rattle.wtf_replica.specs.Faults.{IsPunchFault}
-use Rattle.wtf_replica.specs.Outs.{IsOut, SameLengths}
-use Rattle.wtf_replica.specs.Spans.{span}
-use Rattle.wtf_model.specs.declared.answer.Answer.{Answer}
-use Rattle.wtf_model.specs.declared.answer.Answer.TheVariants as answer
-use Rattle.wtf_model.specs.declared.event.Event.TheVariants as event
-use Rattle.wtf_meta.specs.Bytes.{any_slice}
-use Rattle.wtf_region.specs.declared.dev.Dev.{Dev}
-use Rattle.wtf_region.specs.Apart.{lies_in}
-use Rattle.wtf_region.specs.Devs.{IsSoundDev, GoesOn, stores, between}
-use Rattle.wtf_region.specs.Inside.{is_inside}
-use Rattle.wtf_region.proofs.InsideLaws.{inside_stays}
-use Rattle.wtf_replay.specs.Causes.{fault_answer}
-use Rattle.wtf_gc.specs.Frees.{AreApart, FreesSome, IsCollectFault, lie_in}
-use Rattle.wtf_gc.specs.Views.{GcView, is_garbage}
-use Rattle.wtf_clients.specs.Views.{BesideView, TablesView, of_label}
-use Rattle.wtf_clients.specs.Named.{TablesBytes, any_byte, no_slice, has_copies}
-use Rattle.wtf_clients.specs.Outcomes.{Frees, AddsBytes, HasCause}
-use Rattle.wtf_clients.specs.Asked.{LacksPunch, line_asked, lent_by, HasFailed}
-use Rattle.wtf_clients.specs.Serves.{NamesTables, AreBased, AreFull, ServesLine}
-use Rattle.wtf_clients.proofs.Lacking.{memory_none}
-use Rattle.wtf_clients.proofs.Known.{lent_to}
-use Rattle.wtf_clients.proofs.ToldLaws.{tables_stay}
+use Rattle.wtf_clients.proofs.Common.{and_from, and_parts, or_left, or_right, eq-eqb, le-leb, lt-ltb, list_any-append, Fault, EachFollows, Range, StoreKind}
+use Rattle.wtf_clients.proofs.Common.{KindLaws, each_on, Place, IsRing, is_down, IsPunchFault, IsOut, SameLengths, span, Answer, Event, any_slice, Dev, lies_in}
+use Rattle.wtf_clients.proofs.Common.{IsSoundDev, GoesOn, stores, between, is_inside, inside_stays, fault_answer, AreApart, FreesSome, IsCollectFault, lie_in}
+use Rattle.wtf_clients.proofs.Common.{GcView, is_garbage, BesideView, TablesView, of_label, any_byte, no_slice, has_copies, Frees, AddsBytes, HasCause}
+use Rattle.wtf_clients.proofs.Common.{LacksPunch, line_asked, lent_by, HasFailed, NamesTables, AreBased, AreFull, ServesLine, ◌≡◌, ℕ, ◌+◌, ◌<◌, Bool, true}
+use Rattle.wtf_clients.proofs.Common.{◌&&◌, nat_eq, nat_le, nat_lt, List, [], ◌∷◌, ◌++◌, length, Some, refl, sym, ap, ◌∙◌, subst, inl, inr, arith}
+use Rattle.wtf_clients.proofs.{Lives.AreInside, Lacking.memory_none, Known.lent_to, ToldLaws.tables_stay}
 
 -- other scans name nothing else
 pub gc_names : (old : TablesView) (beside : BesideView) → beside.jobs ≡ old.beside.jobs → NamesTables old (record old { beside = beside })
-gc_names old beside jobs P Q hole h = record {
-  live = h.live;
-  each = h.each;
-  planned = λ j x is. h.planned j x (ap (λ l. of_label l j) (sym jobs) ∙ is);
-}
+gc_names old beside jobs P Q hole h = record { live = h.live; each = h.each; planned = λ j x is. h.planned j x (ap (λ l. of_label l j) (sym jobs) ∙ is) }
 
 -- the servers that are out in a later part of a span are out in it, whatever is punched
 out_after : {S : Type 0} {kind : StoreKind S} → KindLaws kind → (down : ℕ → Bool) (old mid new : List S) (ranges : List (ℕ × Range))
@@ -72,17 +40,15 @@ range_after [] r rest apart = apart.0
 range_after (b ∷ bs) r rest apart = range_after bs r rest apart.2
 
 module _ {S : Type 0} {kind : StoreKind S} (laws : KindLaws kind) (old new : Dev S) (lent : IsSoundDev kind old)
-    (ring : IsRing old.settings.servers old.ring.now.points) (before : TablesView)
-    (inside : TablesBytes (is_inside kind (stores old) old.settings) any_slice before) (lengths : SameLengths kind (stores old) (stores new)) (k : ℕ)
-    (beside : BesideView) (jobs : beside.jobs ≡ before.beside.jobs) where
+    (ring : IsRing old.settings.servers old.ring.now.points) (before : TablesView) (inside : AreInside kind old before)
+    (lengths : SameLengths kind (stores old) (stores new)) (k : ℕ) (beside : BesideView) (jobs : beside.jobs ≡ before.beside.jobs) where
   abbrev after : TablesView
   after = record before { beside = beside }
 
   serves_by : (ranges : List (ℕ × Range)) → EachFollows kind (stores old) (stores new) ranges → (a : Answer)
-      → AddsBytes kind (between old new) old.settings (Frees k) a
-      → HasCause kind (between old new) old.settings ⊥ (AreBased before) (AreFull old.settings before) (Frees k) a
-      → HasFailed (line_asked kind (between old new) (lent_by old new) before (event.Collect k)).fails a
-      → ServesLine kind (between old new) (lent_by old new) before after (event.Collect k) a
+      → AddsBytes kind (between old new) old.settings (Frees k) a → HasCause kind (between old new) old.settings ⊥ (AreBased before)
+      (AreFull old.settings before) (Frees k) a → HasFailed (line_asked kind (between old new) (lent_by old new) before (Event.Collect k)).fails a
+      → ServesLine kind (between old new) (lent_by old new) before after (Event.Collect k) a
   serves_by ranges each a adds caused failed = record {
     inside = gc_names before beside jobs (is_inside kind (stores new) old.settings) any_slice refl
         (tables_stay (is_inside kind (stores old) old.settings) (is_inside kind (stores new) old.settings)
@@ -97,8 +63,8 @@ module _ {S : Type 0} {kind : StoreKind S} (laws : KindLaws kind) (old new : Dev
 
   -- what was freed
   pub collected : (ranges : List (ℕ × Range)) → GoesOn kind old new ranges → (n : ℕ)
-      → ServesLine kind (between old new) (lent_by old new) before after (event.Collect k) (answer.Collected n)
-  collected ranges goes n = serves_by ranges goes.each (answer.Collected n) lengths tt tt
+      → ServesLine kind (between old new) (lent_by old new) before after (Event.Collect k) (Answer.Collected n)
+  collected ranges goes n = serves_by ranges goes.each (Answer.Collected n) lengths tt tt
 
   -- the server has garbage, and is out
   lacks : (later : GcView) (why : Fault) → FreesSome kind k old new before.beside.gc later why → IsPunchFault kind (between old new) k why
@@ -119,26 +85,22 @@ module _ {S : Type 0} {kind : StoreKind S} (laws : KindLaws kind) (old new : Dev
 
   -- or the server failed
   pub collect_failed : (later : GcView) (why : Fault) (a : Answer) → fault_answer why ≡ Some a → IsCollectFault kind k old new before.beside.gc later why
-      → ServesLine kind (between old new) (lent_by old new) before after (event.Collect k) a
-  collect_failed later fault.Memory a is f = absurd (memory_none fault.Memory a is refl)
-  collect_failed later (fault.Read j) a is f = absurd f.cause
-  collect_failed later fault.Write a is f = absurd f.cause
-  collect_failed later (fault.Damaged j) a is f = absurd f.cause
-  collect_failed later (fault.Punch j) a is f =
-      let same : answer.FaultPunch j.0 ≡ a = cc in
+      → ServesLine kind (between old new) (lent_by old new) before after (Event.Collect k) a
+  collect_failed later Fault.Memory a is f = absurd (memory_none Fault.Memory a is refl)
+  collect_failed later (Fault.Read j) a is f = absurd f.cause
+  collect_failed later Fault.Write a is f = absurd f.cause
+  collect_failed later (Fault.Damaged j) a is f = absurd f.cause
+  collect_failed later (Fault.Punch j) a is f =
+      let same : Answer.FaultPunch j.0 ≡ a = cc in
       let out : IsOut kind (between old new) k = out_after laws (is_down old.replicas.now) (stores old) (stores f.mid) (stores new) f.ranges f.goes.each k
       (subst (λ r. IsOut kind (span (is_down r.now) (stores f.mid) (stores new)) k) f.goes.replicas f.cause.1) in
       let server = f.cause.0 in
-      subst (λ (b : Answer). ServesLine kind (between old new) (lent_by old new) before after (event.Collect k) b) same
-      (serves_by _ (each_on laws f.goes.each f.last.each) (answer.FaultPunch j.0) lengths
-      (server, subst (λ m. IsOut kind (between old new) m) (sym server) out)
-      (fault.Punch j, refl, (old, new, lent_to old new ring, lacks later (fault.Punch j) f (server, out))))
+      subst (λ (b : Answer). ServesLine kind (between old new) (lent_by old new) before after (Event.Collect k) b) same
+      (serves_by _ (each_on laws f.goes.each f.last.each) (Answer.FaultPunch j.0) lengths (server, subst (λ m. IsOut kind (between old new) m) (sym server) out)
+      (Fault.Punch j, refl, (old, new, lent_to old new ring, lacks later (Fault.Punch j) f (server, out))))
 
 -- a scan that runs goes on, whatever failed
 pub still_runs : {S : Type 0} (kind : StoreKind S) (k : ℕ) (old new : Dev S) (g later : GcView) (why : Fault) → IsCollectFault kind k old new g later why
     → later.running ≡ g.running
-still_runs kind k old new g later fault.Memory f = ap (λ (x : GcView). x.running) f.1
-still_runs kind k old new g later (fault.Read j) f = f.counts.running
-still_runs kind k old new g later fault.Write f = f.counts.running
-still_runs kind k old new g later (fault.Damaged j) f = f.counts.running
-still_runs kind k old new g later (fault.Punch j) f = f.counts.running
+still_runs kind k old new g later Fault.Memory f = ap (λ (x : GcView). x.running) f.1
+still_runs kind k old new g later e f = f.counts.running

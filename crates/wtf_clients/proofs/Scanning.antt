@@ -1,74 +1,21 @@
 -- A piece of a scan keeps collection safe: what the scan would miss once the parts are done it would have missed before.
-use Rattle.std.proofs.Common.{◌≡◌, ℕ, ◌+◌, ◌-◌, ◌<◌, ◌≤◌, Bool, true, false, not, ◌&&◌, cond, min, nat_eq, nat_le, nat_lt, List, [], ◌∷◌, map}
-use Rattle.std.proofs.Common.{Option, None, Some, refl, sym, ap, ◌∙◌, subst, ⊎_elim, arith}
-use Rattle.std.specs.Prelude.{IsTrue}
-use Rattle.std.specs.List.{All, list_any}
-use Rattle.std.proofs.lemmas.Bool.{cases_Bool, cases_lt, and_parts, and_from, or_left, or_right, both_ways, not-true, false_from_ne_true}
-use Rattle.std.proofs.lemmas.Bool.{eq-eqb, eqb-true, le-leb, lt-ltb}
-use Rattle.std.proofs.lemmas.List.Elements.{All-nil, All-cons, All-head, All-tail, All-weaker}
-use Rattle.std.proofs.lemmas.Nat.{mod_below}
-use Rattle.wtf_base.specs.declared.ids.InodeId.{InodeId}
-use Rattle.wtf_base.specs.declared.pointer.Pointer.{Pointer}
-use Rattle.wtf_base.specs.declared.settings.Settings.{Settings}
-use Rattle.wtf_base.specs.declared.slice.Slice.{Slice}
-use Rattle.wtf_base.specs.Places.{Place, place_in}
-use Rattle.wtf_base.specs.Slices.{len_of, pointers_of}
-use Rattle.wtf_base.proofs.Pointers.{pointers-len}
-use Rattle.wtf_dev.specs.Each.{EachFollows}
-use Rattle.wtf_dev.specs.Store.{Range, StoreKind, KindLaws}
-use Rattle.wtf_overlay.specs.Lengths.{HasLength}
-use Rattle.wtf_overlay.specs.declared.part.Entry.{Entry}
-use Rattle.wtf_overlay.specs.declared.part.Part.{Part}
-use Rattle.wtf_overlay.specs.declared.part.Part.TheVariants.{Zero, Held}
-use Rattle.wtf_replica.specs.Inside.{size_in}
-use Rattle.wtf_kv.specs.Stores.{Store, is_live}
-use Rattle.wtf_kv.proofs.KeptLaws.{value_among}
-use Rattle.wtf_values.specs.declared.key.Key.{Key}
-use Rattle.wtf_values.specs.declared.key.Key.TheVariants.{Region}
-use Rattle.wtf_values.specs.declared.region.RegionValue.{RegionValue}
-use Rattle.wtf_values.specs.declared.region.Spill.{Spill}
-use Rattle.wtf_values.specs.declared.value.Value.{Value}
-use Rattle.wtf_values.specs.declared.value.Value.TheVariants as value
-use Rattle.wtf_values.specs.Keys.{key_cmp}
-use Rattle.wtf_model.specs.declared.limits.TheConstants.{SCAN_PARTS}
-use Rattle.wtf_meta.specs.Bytes.{PartBytes, EntryBytes, BaseBytes, RegionBytes, MaybeBytes, ValueBytes, any_slice}
-use Rattle.wtf_meta.specs.Contents.{Told, is_told, is_listed, lists_in}
-use Rattle.wtf_meta.specs.FileEdits.{region_of}
-use Rattle.wtf_meta.specs.Lists.{TellLists, or_none}
-use Rattle.wtf_meta.specs.Maps.{Map, metadata_at}
-use Rattle.wtf_meta.proofs.ListTests.{has_list, list_has-true}
-use Rattle.wtf_meta.proofs.Telling.{TellsOn, is_told-later}
-use Rattle.wtf_meta.proofs.Weaker.{base_stays}
-use Rattle.wtf_region.specs.declared.dev.Dev.{Dev}
-use Rattle.wtf_region.specs.Apart.{are_apart}
-use Rattle.wtf_region.specs.Cached.{CacheTrue}
-use Rattle.wtf_region.specs.Devs.{stores, remembered, told_in, shown_in}
-use Rattle.wtf_replay.specs.Insides.{LogBytes, lists_have}
-use Rattle.wtf_replay.proofs.Later.{tells_on, tells_all_on}
-use Rattle.wtf_compact.specs.Jobs.{region_in_map}
-use Rattle.wtf_gc.specs.declared.extent.Extent.{Extent}
-use Rattle.wtf_gc.specs.Extents.{extents_cover}
-use Rattle.wtf_gc.specs.Frees.{LiesOn}
-use Rattle.wtf_gc.specs.Named.{pointer_has, slice_has, part_has, list_has as names_in, base_has, own_has, under_has, region_has}
-use Rattle.wtf_gc.specs.Parts.{part_of, stands_in, IsIn, Finds}
-use Rattle.wtf_gc.specs.Reading.{PartsRead}
-use Rattle.wtf_gc.specs.Scans.{IsPrunedFrom, next_parts, run_on, with_finished, with_run}
-use Rattle.wtf_gc.specs.Views.{RunView, GcView, mark_in}
-use Rattle.wtf_gc.proofs.Living.{kept_region}
-use Rattle.wtf_clients.specs.Views.{BesideView, TablesView, of_client, of_label, was_job, with_gc}
-use Rattle.wtf_clients.specs.Sounds.{AreSound}
-use Rattle.wtf_clients.specs.Serves.{NamesTables}
-use Rattle.wtf_clients.specs.ScanTurns.{KeepsBut, IsPruned, DoesTurn}
-use Rattle.wtf_clients.specs.Safe.{off, NamesNone, is_below, scan_of, last_scan, OwnBytes, IsMissed, IsSafe}
-use Rattle.wtf_clients.specs.Telling.{ListedBytes, TellsTables}
-use Rattle.wtf_clients.proofs.Added.{sizes_grow}
-use Rattle.wtf_clients.proofs.Goings.{own_txn_later, own_job_later}
-use Rattle.wtf_clients.proofs.JobPins.{job_pinned}
-use Rattle.wtf_clients.proofs.Lives.{pinned_live, number_live, live_cases, seen_live}
-use Rattle.wtf_clients.proofs.SafeLaws.{region_had, map_region}
-use Rattle.wtf_clients.proofs.ScanFrames.{does_reads}
-use Rattle.wtf_clients.proofs.ScanLaws.{kept_names, kept_own_txns, kept_own_jobs}
-use Rattle.wtf_clients.proofs.ToldLaws.{tables_weaker, tables_later}
+use Rattle.wtf_clients.proofs.Common.{IsTrue, list_any, cases_lt, and_from, or_right, not-true, eqb-true, stands_in, PartsRead, of_client, NamesNone, last_scan}
+use Rattle.wtf_clients.proofs.Common.{All, pointers_of, EachFollows, value_among, RegionValue, RegionBytes, metadata_at, pointer_has, IsPrunedFrom, kept_region}
+use Rattle.wtf_clients.proofs.Common.{cases_Bool, All-weaker, SCAN_PARTS, EntryBytes, MaybeBytes, ValueBytes, base_stays, NamesTables, ListedBytes, TellsTables}
+use Rattle.wtf_clients.proofs.Common.{and_parts, both_ways, mod_below, Slice, StoreKind, remembered, lists_have, region_has, next_parts, BesideView, TablesView}
+use Rattle.wtf_clients.proofs.Common.{or_left, All-nil, Key, base_has, with_run, of_label, AreSound, KeepsBut, IsPruned, DoesTurn, is_below, OwnBytes, IsMissed}
+use Rattle.wtf_clients.proofs.Common.{false_from_ne_true, pointers-len, list_has-true, is_told-later, tells_all_on, region_in_map, extents_cover, with_finished}
+use Rattle.wtf_clients.proofs.Common.{eq-eqb, le-leb, lt-ltb, len_of, Region, stores, Extent, LiesOn, run_on, GcView, was_job, with_gc, scan_of, IsSafe, nat_eq}
+use Rattle.wtf_clients.proofs.Common.{All-cons, All-head, All-tail, Settings, place_in, KindLaws, lists_in, has_list, shown_in, LogBytes, tells_on, part_has, ℕ}
+use Rattle.wtf_clients.proofs.Common.{InodeId, Pointer, Part, size_in, is_live, key_cmp, is_told, or_none, TellsOn, told_in, own_has, part_of, RunView, mark_in}
+use Rattle.wtf_clients.proofs.Common.{Range, Entry, Zero, Held, Store, Spill, Value, Told, IsIn, Finds, false, nat_le, nat_lt, [], Option, subst, ⊎_elim, arith}
+use Rattle.wtf_clients.proofs.Common.{HasLength, PartBytes, BaseBytes, any_slice, is_listed, region_of, TellLists, are_apart, CacheTrue, slice_has, under_has}
+use Rattle.wtf_clients.proofs.Common.{Map, Dev, off, ◌≡◌, ◌+◌, ◌-◌, ◌<◌, ◌≤◌, Bool, true, not, ◌&&◌, cond, min, List, ◌∷◌, map, None, Some, refl, sym, ap, ◌∙◌}
+use Rattle.wtf_base.specs.Places.{Place}
+use Rattle.wtf_gc.specs.Named.{list_has as names_in}
+use Rattle.wtf_clients.proofs.{Added.sizes_grow, Goings.own_txn_later, Goings.own_job_later, JobPins.job_pinned, Lives.pinned_live, Lives.number_live}
+use Rattle.wtf_clients.proofs.{Lives.live_cases, Lives.seen_live, SafeLaws.region_had, SafeLaws.map_region, ScanFrames.does_reads, ScanLaws.kept_names}
+use Rattle.wtf_clients.proofs.{ScanLaws.kept_own_txns, ScanLaws.kept_own_jobs, ToldLaws.tables_weaker, ToldLaws.tables_later}
 
 -- ---- what has no byte of a set
 module _ (X : Place → Bool) where
@@ -106,8 +53,7 @@ module _ (X : Place → Bool) where
   list_off : (es : List Entry) → IsOff (names_in es) → All (EntryBytes (off X)) es
   list_off [] h = All-nil (EntryBytes (off X))
   list_off (e ∷ es) h =
-      All-cons (EntryBytes (off X)) e es
-      (part_off e.len e.part e.held (λ p here. h p (or_left (part_has e.part p) (names_in es p) here)))
+      All-cons (EntryBytes (off X)) e es (part_off e.len e.part e.held (λ p here. h p (or_left (part_has e.part p) (names_in es p) here)))
       (list_off es (λ p here. h p (or_right (part_has e.part p) (names_in es p) here)))
 
   -- a region whose base's list is told
@@ -191,8 +137,7 @@ module _ (size : ℕ) (told : Told) (old new : TablesView) (sound : AreSound old
   -- They are safe where what was freed and the marks of the last scan are the same, and the others find what they have to.
   safe_by : (g : GcView) → new.beside.gc ≡ g → g.freed ≡ old.beside.gc.freed → (last_scan g).marks ≡ (last_scan old.beside.gc).marks
       → NamesNone size told (λ p. is_below g.older p && not (extents_cover g.newer.found p)) old
-      → ((r : RunView) → g.running ≡ Some r → (X : Place → Bool) → IsMissed size told new.kv g.newer r X → NamesNone size told X old)
-      → IsSafe size told new
+      → ((r : RunView) → g.running ≡ Some r → (X : Place → Bool) → IsMissed size told new.kv g.newer r X → NamesNone size told X old) → IsSafe size told new
   safe_by g is freed marks done going =
       let back : g ≡ new.beside.gc = sym is in
       let Marked : List ℕ → Place → Bool = λ ms p. nat_lt p.at (mark_in ms p.server p.file) in
@@ -202,8 +147,7 @@ module _ (size : ℕ) (told : Told) (old new : TablesView) (sound : AreSound old
         done = subst (λ (e : GcView). NamesNone size told (λ p. is_below e.older p && not (extents_cover e.newer.found p)) new) back
             (none_on (λ p. is_below g.older p && not (extents_cover g.newer.found p)) done);
         going = λ r is_run X missed.
-            none_on X (going r (ap (λ (e : GcView). e.running) back ∙ is_run) X
-            (subst (λ (e : GcView). IsMissed size told new.kv e.newer r X) is missed));
+            none_on X (going r (ap (λ (e : GcView). e.running) back ∙ is_run) X (subst (λ (e : GcView). IsMissed size told new.kv e.newer r X) is missed));
         since_txns = λ c x there late.
             let was : of_client old.clients c ≡ Some x = ap (λ l. of_client l c) (sym keeps.clients) ∙ there in
             let bound : new.beside.scan_tx ≡ old.beside.scan_tx = ap (λ (b : BesideView). b.scan_tx) keeps.beside in
@@ -244,12 +188,12 @@ module _ (size : ℕ) (told : Told) (old new : TablesView) (sound : AreSound old
       where
         by : (v : Option Value) → metadata_at old.kv m (Region i k) ≡ v → MaybeBytes (off X) (lists_have size told (off X)) (region_of v)
         by None is = tt
-        by (Some (value.Node d)) is = tt
-        by (Some (value.Names ns)) is = tt
-        by (Some (value.Count n)) is = tt
-        by (Some (value.Last l)) is = tt
-        by (Some (value.Region v)) is =
-            let (number, among) = value_among key_cmp new.kv m (Region i k) (value.Region v) (ap (λ (w : Map). w (Region i k)) (maps m readable) ∙ is) in
+        by (Some (Value.Node d)) is = tt
+        by (Some (Value.Names ns)) is = tt
+        by (Some (Value.Count n)) is = tt
+        by (Some (Value.Last l)) is = tt
+        by (Some (Value.Region v)) is =
+            let (number, among) = value_among key_cmp new.kv m (Region i k) (Value.Region v) (ap (λ (w : Map). w (Region i k)) (maps m readable) ∙ is) in
             let there : IsIn new.kv (next_parts r.left n) v = record { at = Region i k; stands = stands; number = number; among = among } in
             let known : RegionBytes (is_told told) (is_listed size told) v =
             subst (ValueBytes (is_told told) (is_listed size told)) is (names.live m readable (Region i k)) in
@@ -286,8 +230,7 @@ module _ (size : ℕ) (told : Told) (old new : TablesView) (sound : AreSound old
     last_safe : r.left - n ≡ 0 → new.beside.gc ≡ with_finished old.beside.gc then_run.scan → IsSafe size told new
     last_safe none is =
         let X : Place → Bool = λ p. is_below old.beside.gc.newer p && not (extents_cover found p) in
-        safe_by (with_finished old.beside.gc then_run.scan) is refl (sym last_marks)
-        (safe.going r runs X (missed_on X
+        safe_by (with_finished old.beside.gc then_run.scan) is refl (sym last_marks) (safe.going r runs X (missed_on X
         (λ p here. (and_parts (is_below old.beside.gc.newer p) (not (extents_cover found p)) here).0)
         (λ p here. not-true (extents_cover found p) (and_parts (is_below old.beside.gc.newer p) (not (extents_cover found p)) here).1)
         (λ k seen i j from apart. absurd (none_past r.left n i none from apart))))
@@ -315,11 +258,8 @@ pruned_names old new p sound =
     kept_names old new sound (pruned_live old.kv new.kv p.kv p.pins) (λ m live. p.kv.maps m live) p.clients (ap (λ (b : BesideView). b.jobs) p.beside)
 
 pub pruned_keeps : (old new : TablesView) → IsPruned old new → KeepsBut old new
-pruned_keeps old new p = record {
-  beside = p.beside ∙ sym (ap (λ (b : BesideView). with_gc old.beside b.gc) p.beside);
-  clients = p.clients;
-  next_tx = p.next_tx;
-}
+pruned_keeps old new p =
+    record { beside = p.beside ∙ sym (ap (λ (b : BesideView). with_gc old.beside b.gc) p.beside); clients = p.clients; next_tx = p.next_tx }
 
 module _ {S : Type 0} {kind : StoreKind S} (laws : KindLaws kind) (before after : Dev S) (goes : EachFollows kind (stores before) (stores after) [])
     (settings : after.settings ≡ before.settings) (old new : TablesView) (sound : AreSound old) where
@@ -379,8 +319,7 @@ module _ {S : Type 0} {kind : StoreKind S} (laws : KindLaws kind) (before after 
     parts_tell : (left n : ℕ) (b a : Place → Bool) → IsPrunedFrom old.kv new.kv
         → (read : PartsRead kind before after new.kv (next_parts left n) b a) → TellLists (lists_in size later) read.facts
     parts_tell left n b a pruned read =
-        subst (λ (st : Settings). TellLists (lists_in st.region later) read.facts) settings
-        (read.told tells.punched tells.cache
+        subst (λ (st : Settings). TellLists (lists_in st.region later) read.facts) settings (read.told tells.punched tells.cache
         (read.slices (is_told told) any_slice (λ v there. bases_on (is_told told) tells.names pruned left n v there))
         (read.slices (are_apart tells.punched) any_slice (λ v there. bases_on (are_apart tells.punched) tells.away pruned left n v there)))
 

@@ -1,83 +1,42 @@
 -- What answered lines made of the bytes that the tables name, and of the stores.
-use Rattle.std.proofs.Common.{◌≡◌, ◌⊎◌, ℕ, Bool, true, List, [], Option, None, Some, refl, sym, ap, subst, inl, inr, slice_get}
-use Rattle.std.specs.Prelude.{IfSome}
-use Rattle.std.specs.Option.{option_map}
-use Rattle.wtf_base.specs.declared.fault.Fault.{Fault}
-use Rattle.wtf_base.specs.declared.fault.Fault.TheVariants as fault
-use Rattle.wtf_base.specs.declared.ids.InodeId.{InodeId}
-use Rattle.wtf_base.specs.declared.settings.Settings.{Settings}
-use Rattle.wtf_base.specs.declared.slice.Slice.{Slice}
-use Rattle.wtf_dev.specs.Store.{StoreKind, KindLaws}
-use Rattle.wtf_overlay.specs.Origin.{Place}
-use Rattle.wtf_kv.specs.Stores.{Store}
-use Rattle.wtf_values.specs.declared.key.Key.{Key}
-use Rattle.wtf_values.specs.declared.value.Value.{Value}
-use Rattle.wtf_model.specs.declared.answer.Answer.{Answer, Aborted'}
-use Rattle.wtf_model.specs.declared.answer.Answer.TheVariants as answer
-use Rattle.wtf_model.specs.declared.answer.Word.{Word}
-use Rattle.wtf_model.specs.declared.op.Op.{Op}
-use Rattle.wtf_model.specs.declared.event.Event.TheVariants as event
-use Rattle.wtf_model.specs.declared.event.Verb.TheVariants as verb
-use Rattle.wtf_ring.specs.Points.{PlaceView, IsRing}
-use Rattle.wtf_meta.specs.Bytes.{ListsBytes, any_slice}
-use Rattle.wtf_meta.specs.Calls.{InHand}
-use Rattle.wtf_meta.specs.FileEdits.{file_of}
-use Rattle.wtf_meta.specs.Maps.{Map, metadata_at, seen}
-use Rattle.wtf_meta.proofs.MapBytes.{with_bytes}
-use Rattle.wtf_meta.proofs.Nothing.{nothing_kept}
-use Rattle.wtf_region.specs.declared.dev.Dev.{Dev}
-use Rattle.wtf_region.specs.Devs.{IsSoundDev, GoesOn, stores, inside_of, between}
-use Rattle.wtf_region.specs.Inside.{is_inside}
-use Rattle.wtf_region.specs.Showing.{OnlyRead}
-use Rattle.wtf_rw.specs.Stored.{SliceBytes}
-use Rattle.wtf_replay.specs.Views.{TxnView, hand_of, rebased, in_hand}
-use Rattle.wtf_replay.specs.Causes.{IsCallFault, FaultAt, ReplayFault, IsCommitFault, fault_answer}
-use Rattle.wtf_replay.proofs.Froms.{from_one}
-use Rattle.wtf_replay.specs.Insides.{HandBytes, LogBytes, TxnBytes, IsInsideTxn, NamesTxn, NamesNow}
-use Rattle.wtf_replay.specs.Refusals.{call_refusal, step_refusal}
-use Rattle.wtf_replay.specs.Replays.{IsStepped, IsEnded}
-use Rattle.wtf_replay.proofs.Insiding.{map_later, inside_later}
-use Rattle.wtf_replay.proofs.Naming.{named_inside}
-use Rattle.wtf_clients.specs.Views.{Clients, TablesView, of_client}
-use Rattle.wtf_clients.specs.Sounds.{AreSound, Sets}
-use Rattle.wtf_clients.specs.Named.{TablesBytes, any_byte, no_slice, has_copies}
-use Rattle.wtf_clients.specs.Asked.{Asked, line_asked, lent_by, IsPlaced, HasFailed}
-use Rattle.wtf_clients.specs.Outcomes.{Data, no_load, AddsBytes, HasCause, data_of_op}
-use Rattle.wtf_clients.specs.Serves.{NamesTables, IsPlain, AreBased, AreBare, AreFull, Serves}
-use Rattle.wtf_clients.specs.Turns.{Ends, TablesStay}
-use Rattle.wtf_clients.proofs.Lives.{now_bytes}
-use Rattle.wtf_clients.proofs.Making.{answered, same_answer}
-use Rattle.wtf_clients.proofs.Naming.{value_later, keeps_bytes, stays_bytes, leaves_bytes, ends_bytes}
-use Rattle.wtf_clients.proofs.Lacking.{AreFullLists, memory_none, no_lists, any_lists, cause_since}
-use Rattle.wtf_clients.proofs.Caused.{logged_plain, plain_caused, plain_failed, has_failed, none_placed, refused_placed, fault_placed, call_placed}
-use Rattle.wtf_clients.proofs.Caused.{none_added, refused_adds, same_lengths, call_adds, own_full, fault_adds, SeenBytes, again_caused, call_caused}
-use Rattle.wtf_replay.specs.Verbs.{Turn, turn, CallOf, StepOf}
-use Rattle.std.specs.Prelude.{Ok, Err}
-use Rattle.wtf_clients.proofs.Making.{as_words, refusal_of}
-use Rattle.wtf_clients.proofs.Known.{lent_to}
+use Rattle.wtf_clients.proofs.Common.{IfSome, option_map, Fault, InodeId, Settings, Slice, StoreKind, KindLaws, Place, Store, Key, Value, Answer, Aborted'}
+use Rattle.wtf_clients.proofs.Common.{Word, Op, Event, Verb, PlaceView, IsRing, ListsBytes, any_slice, InHand, file_of, Map, metadata_at, seen, with_bytes}
+use Rattle.wtf_clients.proofs.Common.{nothing_kept, Dev, IsSoundDev, GoesOn, stores, inside_of, between, is_inside, OnlyRead, SliceBytes, TxnView, hand_of}
+use Rattle.wtf_clients.proofs.Common.{rebased, in_hand, IsCallFault, FaultAt, ReplayFault, IsCommitFault, fault_answer, from_one, HandBytes, LogBytes, TxnBytes}
+use Rattle.wtf_clients.proofs.Common.{IsInsideTxn, NamesTxn, NamesNow, call_refusal, step_refusal, IsStepped, IsEnded, map_later, inside_later, named_inside}
+use Rattle.wtf_clients.proofs.Common.{Clients, TablesView, of_client, AreSound, Sets, TablesBytes, any_byte, no_slice, has_copies, Asked, line_asked, lent_by}
+use Rattle.wtf_clients.proofs.Common.{IsPlaced, HasFailed, Data, no_load, AddsBytes, HasCause, data_of_op, NamesTables, IsPlain, AreBased, AreBare, AreFull}
+use Rattle.wtf_clients.proofs.Common.{Serves, Ends, TablesStay, Turn, turn, CallOf, StepOf, Ok, Err, ◌≡◌, ◌⊎◌, ℕ, Bool, true, List, [], Option, None, Some}
+use Rattle.wtf_clients.proofs.Common.{refl, sym, ap, subst, inl, inr, slice_get, ListFact}
+use Rattle.wtf_clients.proofs.{Lives.AreInside, Lives.now_bytes, Making.answered, Making.same_answer, Naming.value_later, Naming.keeps_bytes}
+use Rattle.wtf_clients.proofs.{Naming.stays_bytes, Naming.leaves_bytes, Naming.ends_bytes, Lacking.AreFullLists, Lacking.memory_none, Lacking.no_lists}
+use Rattle.wtf_clients.proofs.{Lacking.any_lists, Lacking.cause_since, Caused.logged_plain, Caused.plain_caused, Caused.plain_failed, Caused.has_failed}
+use Rattle.wtf_clients.proofs.{Caused.none_placed, Caused.refused_placed, Caused.fault_placed, Caused.call_placed, Caused.none_added, Caused.refused_adds}
+use Rattle.wtf_clients.proofs.{Caused.same_lengths, Caused.call_adds, Caused.own_full, Caused.fault_adds, Caused.SeenBytes, Caused.again_caused}
+use Rattle.wtf_clients.proofs.{Caused.call_caused, Making.as_words, Making.refusal_of, Known.lent_to}
 
 -- what is not refused
 pub stepped_plain : (x y : TxnView) (a : Answer) → IsStepped x y a → IsPlain a
-stepped_plain x y (answer.Replayed i) h = tt
+stepped_plain x y (Answer.Replayed i) h = tt
 stepped_plain x y (Aborted' i box a) h = tt
 stepped_plain x y a h = absurd h
 
 pub ended_plain : (kv after : Store Key Value) (a : Answer) → IsEnded kv after a → IsPlain a
-ended_plain kv after (answer.Committed n) h = tt
+ended_plain kv after (Answer.Committed n) h = tt
 ended_plain kv after (Aborted' i box a) h = tt
 ended_plain kv after a h = absurd h
 
 -- what was not refused is said of an answer, and a refusal
 plain_or : {D : Type 0} (x y : TxnView) (before after : D) (a : Answer) (o : Option Word)
-    → IfSome o (λ w. (answered Fault a (answer.Refused w)) × (y ≡ x) × (after ≡ before)) → (o ≡ None → IsStepped x y a) → IsPlain a
+    → IfSome o (λ w. (answered Fault a (Answer.Refused w)) × (y ≡ x) × (after ≡ before)) → (o ≡ None → IsStepped x y a) → IsPlain a
 plain_or x y before after a None stopped stepped = stepped_plain x y a (stepped refl)
-plain_or x y before after a (Some w) stopped stepped = subst IsPlain (sym (same_answer Fault a (answer.Refused w) stopped.0)) tt
+plain_or x y before after a (Some w) stopped stepped = subst IsPlain (sym (same_answer Fault a (Answer.Refused w) stopped.0)) tt
 
 pub step_plain : {S : Type 0} (t : Turn S) (a : Answer) → StepOf t (Ok a) → IsPlain a
 step_plain t a did = plain_or t.old t.new t.before t.after a (step_refusal t.old) did.refused did.stepped
 
 -- a fault that is answered is no want of memory
-pub past_memory : {F : Type 0} (why : Fault) (a : Answer) → fault_answer why ≡ Some a → (why ≡ fault.Memory) ⊎ F → F
+pub past_memory : {F : Type 0} (why : Fault) (a : Answer) → fault_answer why ≡ Some a → (why ≡ Fault.Memory) ⊎ F → F
 past_memory why a is (inl memory) = absurd (memory_none why a is memory)
 past_memory why a is (inr f) = f
 
@@ -99,8 +58,7 @@ NamesAfter kind old new before after =
     TablesBytes P no_slice after)
 
 module _ {S : Type 0} {kind : StoreKind S} (laws : KindLaws kind) (old new : Dev S) (goes : GoesOn kind old new []) (lent : IsSoundDev kind old)
-    (before : TablesView) (sound : AreSound before)
-    (inside : TablesBytes (is_inside kind (stores old) old.settings) any_slice before) where
+    (before : TablesView) (sound : AreSound before) (inside : AreInside kind old before) where
   -- what lies inside the stores goes on doing so
   inside_at : (mid : Dev S) → GoesOn kind old mid [] → TablesBytes (is_inside kind (stores mid) old.settings) any_slice before
   inside_at mid on = record {
@@ -159,7 +117,7 @@ module _ {S : Type 0} {kind : StoreKind S} (laws : KindLaws kind) (old new : Dev
 
     -- a call that was made once more and failed
     pub step_by : (c : ℕ) (x : TxnView) (why : Fault) (a : Answer) → of_client before.clients c ≡ Some x → fault_answer why ≡ Some a
-        → AreFullReads full O old (seen before.kv x.at) → (why ≡ fault.Memory) ⊎ FaultAt kind old new before.kv (hand_of x) (slice_get x.log.ops x.replayed) why
+        → AreFullReads full O old (seen before.kv x.at) → (why ≡ Fault.Memory) ⊎ FaultAt kind old new before.kv (hand_of x) (slice_get x.log.ops x.replayed) why
         → HasCause kind (between old new) old.settings ⊥ (AreBased before) full no_load a
     step_by c x why a there is lists (inl memory) = absurd (memory_none why a is memory)
     step_by c x why a there is lists (inr f) =
@@ -188,8 +146,7 @@ module _ {S : Type 0} {kind : StoreKind S} (laws : KindLaws kind) (old new : Dev
         (named_inside kind old f.mid f.goes f.named.lists f.named.inside)))
         (λ Q based. hand any_byte Q refl based (any_lists Q f.named.lists))
         (λ h. subst (λ (st : Settings). SeenBytes (has_copies st.replicas) O (seen before.kv f.at) f.session) (sym f.goes.settings)
-        (hand (has_copies old.settings.replicas) O refl (copies h) (lists.0 h)))
-        lists.1 f.fault.op why a is f.fault.cause)
+        (hand (has_copies old.settings.replicas) O refl (copies h) (lists.0 h))) lists.1 f.fault.op why a is f.fault.cause)
 
     pub commit_by : (c : ℕ) (x : TxnView) (why : Fault) (a : Answer) → of_client before.clients c ≡ Some x → fault_answer why ≡ Some a
         → ((y : TxnView) → IsOfTables y → (f : ReplayFault kind old new before.kv y why)
@@ -214,14 +171,12 @@ module _ {S : Type 0} {kind : StoreKind S} (laws : KindLaws kind) (old new : Dev
   no_reads mid w i off n = λ h ps r. no_lists (has_copies mid.settings.replicas) r.facts
 
   pub step_caused : (c : ℕ) (x : TxnView) (why : Fault) (a : Answer) → of_client before.clients c ≡ Some x → fault_answer why ≡ Some a
-      → (why ≡ fault.Memory) ⊎ FaultAt kind old new before.kv (hand_of x) (slice_get x.log.ops x.replayed) why
+      → (why ≡ Fault.Memory) ⊎ FaultAt kind old new before.kv (hand_of x) (slice_get x.log.ops x.replayed) why
       → HasCause kind (between old new) old.settings ⊥ (AreBased before) (AreFull old.settings before) no_load a
-  step_caused c x why a there is cause =
-      step_by (AreFull old.settings before) no_slice (λ h. h) c x why a there is (no_reads old (seen before.kv x.at)) cause
+  step_caused c x why a there is cause = step_by (AreFull old.settings before) no_slice (λ h. h) c x why a there is (no_reads old (seen before.kv x.at)) cause
 
   pub commit_caused : (c : ℕ) (x : TxnView) (why : Fault) (a : Answer) → of_client before.clients c ≡ Some x → fault_answer why ≡ Some a
-      → IsCommitFault kind old new before.kv x why
-      → HasCause kind (between old new) old.settings ⊥ (AreBased before) (AreFull old.settings before) no_load a
+      → IsCommitFault kind old new before.kv x why → HasCause kind (between old new) old.settings ⊥ (AreBased before) (AreFull old.settings before) no_load a
   commit_caused c x why a there is cause =
       commit_by (AreFull old.settings before) no_slice (λ h. h) c x why a there is
       (λ y own f. ((λ h. no_lists (has_copies old.settings.replicas) f.named.lists), no_reads f.mid (seen before.kv f.at))) cause
@@ -230,29 +185,26 @@ module _ {S : Type 0} {kind : StoreKind S} (laws : KindLaws kind) (old new : Dev
   pub from_names : (after : TablesView) → NamesTables before after → NamesAfter kind old new before after
   from_names after names = (names (is_inside kind (stores new) old.settings) any_slice refl later, λ P hole. names P no_slice hole)
 
+  -- nor than that and what lists have that were read
+  by_lists : (after : TablesView) (fs : List ListFact) → ListsBytes (is_inside kind (stores new) old.settings) any_slice fs
+      → ((P : List Place → Bool) (Q : Slice → Bool) → P [] ≡ true → ListsBytes P Q fs → TablesBytes P Q before → TablesBytes P Q after)
+      → NamesAfter kind old new before after
+  by_lists after fs inside by = (by (is_inside kind (stores new) old.settings) any_slice refl inside later, λ P hole. by P no_slice hole (no_lists P fs))
+
   -- a client's transaction goes on
-  pub goes_names : (clients : Clients) (c : ℕ) (x y : TxnView) → of_client before.clients c ≡ Some x → Sets c (Some y) before.clients clients → NamesTxn kind
-      old new before.kv x y None
-      → NamesAfter kind old new before (record { kv = before.kv; next_tx = before.next_tx; clients = clients; beside = before.beside })
+  pub goes_names : (clients : Clients) (c : ℕ) (x y : TxnView) → of_client before.clients c ≡ Some x → Sets c (Some y) before.clients clients
+      → NamesTxn kind old new before.kv x y None → NamesAfter kind old new before (record before { clients = clients })
   goes_names clients c x y there sets named =
-      let by : (P : List Place → Bool) (Q : Slice → Bool) → P [] ≡ true → ListsBytes P Q named.lists → TablesBytes P Q before → TablesBytes P Q
-      (record { kv = before.kv; next_tx = before.next_tx; clients = clients; beside = before.beside }) =
-      λ P Q hole lists h.
-      keeps_bytes P Q before (record { kv = before.kv; next_tx = before.next_tx; clients = clients; beside = before.beside }) c y sound
-      (record { clients = sets; kv = refl; next_tx = refl; beside = refl })
-      (named.names P Q hole (h.each c x there) lists tt) h in (
-        by (is_inside kind (stores new) old.settings) any_slice refl (named_inside kind old new goes named.lists named.inside) later,
-        λ P hole. by P no_slice
-            hole (no_lists P named.lists),
-      )
+      by_lists (record before { clients = clients }) named.lists (named_inside kind old new goes named.lists named.inside) (λ P Q hole lists h.
+      keeps_bytes P Q before (record before { clients = clients }) c y sound (record { clients = sets; kv = refl; next_tx = refl; beside = refl })
+      (named.names P Q hole (h.each c x there) lists tt) h)
 
   pub same_names : (clients : Clients) (c : ℕ) (x y : TxnView) → of_client before.clients c ≡ Some x → Sets c (Some y) before.clients clients → y ≡ x
-      → NamesAfter kind old new before (record { kv = before.kv; next_tx = before.next_tx; clients = clients; beside = before.beside })
+      → NamesAfter kind old new before (record before { clients = clients })
   same_names clients c x y there sets same =
-      from_names (record { kv = before.kv; next_tx = before.next_tx; clients = clients; beside = before.beside }) (λ P Q hole h.
-      keeps_bytes P Q before (record { kv = before.kv; next_tx = before.next_tx; clients = clients; beside = before.beside }) c y sound
-      (record { clients = sets; kv = refl; next_tx = refl; beside = refl })
-      (subst (TxnBytes P Q before.kv) (sym same) (h.each c x there)) h)
+      from_names (record before { clients = clients }) (λ P Q hole h.
+      keeps_bytes P Q before (record before { clients = clients }) c y sound
+      (record { clients = sets; kv = refl; next_tx = refl; beside = refl }) (subst (TxnBytes P Q before.kv) (sym same) (h.each c x there)) h)
 
   -- or has ended
   pub leaves_names : (after : TablesView) (c : ℕ) (x : TxnView) → Ends before after before.kv c x → NamesAfter kind old new before after
@@ -261,13 +213,8 @@ module _ {S : Type 0} {kind : StoreKind S} (laws : KindLaws kind) (old new : Dev
   pub ends_names : (after : TablesView) (kv : Store Key Value) (c : ℕ) (x : TxnView) → of_client before.clients c ≡ Some x → Ends before after kv c x →
       NamesNow kind old new before.kv kv x → NamesAfter kind old new before after
   ends_names after kv c x there ends named =
-      let by : (P : List Place → Bool) (Q : Slice → Bool) → P [] ≡ true → ListsBytes P Q named.lists → TablesBytes P Q before → TablesBytes P Q after = λ P Q
-      hole lists h.
-      ends_bytes P Q before after kv c x sound ends (named.names P Q hole (h.each c x there, now_bytes P Q before h) lists) h in (
-        by (is_inside kind (stores new) old.settings) any_slice refl (named_inside kind old new goes named.lists named.inside) later,
-        λ P hole. by P no_slice
-            hole (no_lists P named.lists),
-      )
+      by_lists after named.lists (named_inside kind old new goes named.lists named.inside) (λ P Q hole lists h.
+      ends_bytes P Q before after kv c x sound ends (named.names P Q hole (h.each c x there, now_bytes P Q before h) lists) h)
 
   pub stays_names : (after : TablesView) (c : ℕ) → TablesStay before after c → NamesAfter kind old new before after
   stays_names after c st = from_names after (λ P Q hole h. stays_bytes P Q before after c sound st h)
@@ -275,7 +222,7 @@ module _ {S : Type 0} {kind : StoreKind S} (laws : KindLaws kind) (old new : Dev
   module _ (clients : Clients) (c : ℕ) (x y : TxnView) (there : of_client before.clients c ≡ Some x) (sets : Sets c (Some y) before.clients clients)
       (own : IsInsideTxn kind (stores new) old.settings before.kv y) where
     abbrev called : TablesView
-    called = record { kv = before.kv; next_tx = before.next_tx; clients = clients; beside = before.beside }
+    called = record before { clients = clients }
 
     set_serves : (asked : Asked) (a : Answer) → (AreBare before → TxnBytes any_byte no_slice before.kv y) →
         (AreFull old.settings before → TxnBytes (has_copies old.settings.replicas) no_slice before.kv y) → AddsBytes kind (between old new) old.settings
@@ -299,7 +246,7 @@ module _ {S : Type 0} {kind : StoreKind S} (laws : KindLaws kind) (old new : Dev
     same_bytes P Q same h = subst (TxnBytes P Q before.kv) (sym same) (h.each c x there)
 
     abbrev asked : Op (List ℕ) → Asked
-    asked o = line_asked kind (between old new) (lent_by old new) before (event.Client c (verb.Call o))
+    asked o = line_asked kind (between old new) (lent_by old new) before (Event.Client c (Verb.Call o))
 
     -- a call
     pub call_serves : IsRing old.settings.servers old.ring.now.points → (o : Op (List ℕ)) (a : Answer)
@@ -308,7 +255,7 @@ module _ {S : Type 0} {kind : StoreKind S} (laws : KindLaws kind) (old new : Dev
       where
         by : (r : Option Word) → call_refusal x ≡ r → Serves kind (between old new) old.settings ⊥ (before, called) (asked o) a
         by None is =
-            let did = call.made (ap (option_map answer.Refused) is) in
+            let did = call.made (ap (option_map Answer.Refused) is) in
             let plain = logged_plain a did.called.logged.answer in
             set_serves (asked o) a
             (λ h. did.named.names any_byte no_slice refl (h.each c x there) (no_lists any_byte did.named.lists) (any_own did.own))
@@ -318,17 +265,14 @@ module _ {S : Type 0} {kind : StoreKind S} (laws : KindLaws kind) (old new : Dev
             (plain_caused kind (between old new) old.settings ⊥ (AreBased before) (AreFull old.settings before) (Data (data_of_op o)) a plain)
             (λ ok some.
             let put = call_placed kind old new (seen before.kv x.at) x.session o did.own a did.stored did.called.lacks ok some in
-            (put.0, (old, new, lent_to old new ring, (x, there, put.1)), put.2, put.3))
-            (plain_failed (asked o).fails a plain)
+            (put.0, (old, new, lent_to old new ring, (x, there, put.1)), put.2, put.3)) (plain_failed (asked o).fails a plain)
         by (Some w) is =
             let all = refusal_of Fault x y old new (call_refusal x) w a is (as_words x y old new (Ok a) (call_refusal x) call.instead) in
             subst (λ (r : Answer). Serves kind (between old new) old.settings ⊥ (before, called) (asked o) r) (sym all.0)
-            (set_serves (asked o) (answer.Refused w)
-            (same_bytes any_byte no_slice all.1) (same_bytes (has_copies old.settings.replicas) no_slice all.1)
-            (refused_adds kind (between old new) old.settings (Data (data_of_op o)) (answer.Refused w) tt (same_lengths kind old new all.2))
-            (plain_caused kind (between old new) old.settings ⊥ (AreBased before) (AreFull old.settings before) (Data (data_of_op o)) (answer.Refused w) tt)
-            (refused_placed kind (between old new) old.settings (asked o) (answer.Refused w) tt)
-            (plain_failed (asked o).fails (answer.Refused w) tt))
+            (set_serves (asked o) (Answer.Refused w) (same_bytes any_byte no_slice all.1) (same_bytes (has_copies old.settings.replicas) no_slice all.1)
+            (refused_adds kind (between old new) old.settings (Data (data_of_op o)) (Answer.Refused w) tt (same_lengths kind old new all.2))
+            (plain_caused kind (between old new) old.settings ⊥ (AreBased before) (AreFull old.settings before) (Data (data_of_op o)) (Answer.Refused w) tt)
+            (refused_placed kind (between old new) old.settings (asked o) (Answer.Refused w) tt) (plain_failed (asked o).fails (Answer.Refused w) tt))
 
     -- a call that failed
     pub fault_serves : IsRing old.settings.servers old.ring.now.points → (o : Op (List ℕ)) (why : Fault) (a : Answer) → fault_answer why ≡ Some a

@@ -1,32 +1,10 @@
 -- What others have touched since the base of a transaction or a job: at that base, where nothing was installed, over an install by another,
 -- and where a key is in the way.
-use Rattle.std.proofs.Common.{◌≡◌, ◌≢◌, ◌≤◌, ◌<◌, ℕ, true, List, [], ◌++◌, take, Option, None, Some, IsSome, refl, sym, ap, ◌∙◌, subst, append-nil}
-use Rattle.std.proofs.Common.{⊎_elim, arith}
-use Rattle.wtf_base.specs.declared.ids.InodeId.{InodeId}
-use Rattle.wtf_kv.specs.Edits.{versions_with}
-use Rattle.wtf_kv.specs.Stores.{Store, versions_of, version_of}
-use Rattle.wtf_kv.proofs.EditLaws.{Agree-itself}
-use Rattle.wtf_occ.specs.Tries.{key_in_the_way}
-use Rattle.wtf_model.specs.declared.item.Item.{Item}
-use Rattle.wtf_model.specs.declared.op.Op.{Op}
-use Rattle.wtf_model.specs.Items.{meets, reads_of, writes_of}
-use Rattle.wtf_model.specs.Tree.{Tree}
-use Rattle.wtf_values.specs.declared.key.Key.{Key}
-use Rattle.wtf_values.specs.declared.key.Key.TheVariants.{Inode}
-use Rattle.wtf_values.specs.declared.value.Value.{Value}
-use Rattle.wtf_values.specs.Keys.{key_cmp}
-use Rattle.wtf_values.specs.Outcomes.{outcome_of}
-use Rattle.wtf_meta.specs.Calls.{cap_for}
-use Rattle.wtf_meta.specs.Contents.{Told}
-use Rattle.wtf_meta.specs.Feet.{Feet}
-use Rattle.wtf_meta.specs.Maps.{Map, Edits, with, metadata_at}
-use Rattle.wtf_meta.specs.Trees.{Stands, Own}
-use Rattle.wtf_replay.specs.Views.{TxnView}
-use Rattle.wtf_replay.specs.Sounds.{LogStands, caller_at}
-use Rattle.wtf_replay.specs.Tried.{KeepsMaps, KeepsVersions}
-use Rattle.wtf_clients.specs.Views.{TablesView, metadata_now}
-use Rattle.wtf_clients.specs.Sounds.{IsTidied}
-use Rattle.wtf_clients.specs.Touched.{above, NoneMoved, Touched, OwnStill, SinceBase}
+use Rattle.wtf_clients.proofs.Common.{InodeId, versions_with, Store, versions_of, version_of, Agree-itself, key_in_the_way, Item, Op, meets, reads_of}
+use Rattle.wtf_clients.proofs.Common.{writes_of, Tree, Key, Inode, Value, key_cmp, outcome_of, cap_for, Told, Feet, Map, Edits, with, metadata_at, Stands, Own}
+use Rattle.wtf_clients.proofs.Common.{TxnView, LogStands, caller_at, KeepsMaps, KeepsVersions, TablesView, metadata_now, IsTidied, above, NoneMoved, Touched}
+use Rattle.wtf_clients.proofs.Common.{OwnStill, SinceBase, ◌≡◌, ◌≢◌, ◌≤◌, ◌<◌, ℕ, true, List, [], ◌++◌, take, Option, None, Some, IsSome, refl, sym, ap, ◌∙◌}
+use Rattle.wtf_clients.proofs.Common.{subst, append-nil, ⊎_elim, arith}
 use Rattle.wtf_clients.proofs.AboveLaws.{above-number, above-same, above-kept, above-installed}
 use Rattle.wtf_clients.proofs.TouchLaws.{IsAdded, HasNone, touched_on, own_on, touched_none, own_none, touched_along, own_along, conflict_met}
 
@@ -35,10 +13,7 @@ pub touched_base : (kv : Store Key Value) → Touched (metadata_at kv kv.number)
 touched_base kv = touched_none (metadata_now kv) (above kv kv.number) (above-number kv)
 
 pub since_none : (kv : Store Key Value) (tx : ℕ) → ((i : InodeId) → i.tx.0 ≡ tx → metadata_now kv (Inode i) ≡ None) → SinceBase kv tx kv.number []
-since_none kv tx gone = record {
-  touched = touched_base kv;
-  own = own_none tx (metadata_now kv) (above kv kv.number) gone (above-number kv);
-}
+since_none kv tx gone = record { touched = touched_base kv; own = own_none tx (metadata_now kv) (above kv kv.number) gone (above-number kv) }
 
 -- ---- where nothing was installed
 
@@ -59,8 +34,7 @@ module _ (old new : Store Key Value) (base : ℕ) (items : List Item) (was : Tou
   pub touched_still : metadata_at new base ≡ metadata_at old base → metadata_now new ≡ metadata_now old → NoneMoved (above old base) (above new base)
       → TouchedSince new base items
   touched_still at now fewer =
-      subst (λ w. Touched w (metadata_now new) (above new base) items) (sym at)
-      (subst (λ w. Touched (metadata_at old base) w (above new base) items) (sym now)
+      subst (λ w. Touched w (metadata_now new) (above new base) items) (sym at) (subst (λ w. Touched (metadata_at old base) w (above new base) items) (sym now)
       (touched_along (above old base) (above new base) fewer (metadata_at old base) (metadata_now old) items was))
 
   -- with nothing more touched

@@ -1,39 +1,14 @@
 -- The tables stay sound: in each function that has them to write, and at each of its ends.
-use Rattle.std.proofs.Common.{◌≡◌, ◌≤◌, ℕ, ◌+◌, ◌⊎◌, true, false, cond, nat_eq, count_by, IsTrue, List, [], ◌∷◌, Option, None, Some}
-use Rattle.std.proofs.Common.{is_some, Ok, Err, IfSome, refl, sym, ap, ◌∙◌, subst, inl, inr, ⊎_elim, true≢false, arith}
-use Rattle.std.specs.List.{Contains}
-use Rattle.std.specs.Option.{option_map}
-use Rattle.std.specs.Set.{remove_key}
-use Rattle.std.specs.Prelude.{MatchOption, if◌then◌else◌}
-use Rattle.std.proofs.lemmas.List.Elements.{Contains-append_left, Contains-push_cases}
-use Rattle.wtf_base.specs.declared.fault.Fault.{Fault}
-use Rattle.wtf_dev.specs.Store.{StoreKind}
-use Rattle.wtf_region.specs.declared.dev.Dev.{Dev}
-use Rattle.wtf_kv.specs.Stores.{Store, times_pinned, is_pinned, IsPinnedOnceMore}
-use Rattle.wtf_kv.proofs.PinLaws.{count-push}
-use Rattle.wtf_values.specs.declared.key.Key.{Key}
-use Rattle.wtf_values.specs.declared.value.Value.{Value}
-use Rattle.wtf_model.specs.declared.answer.Answer.{Answer, Aborted'}
-use Rattle.wtf_model.specs.declared.answer.Answer.TheVariants as answer
-use Rattle.wtf_model.specs.declared.answer.Word.{Word}
-use Rattle.wtf_model.specs.declared.op.Op.{Op}
-use Rattle.wtf_meta.specs.Maps.{metadata_at}
-use Rattle.wtf_replay.specs.Refusals.{call_refusal, try_refusal, step_refusal}
-use Rattle.wtf_replay.specs.Replays.{IsStepped, IsEnded}
-use Rattle.wtf_replay.specs.Fits.{IsFit}
-use Rattle.wtf_replay.specs.Verbs.{Turn, turn, CallOf, StepOf}
-use Rattle.wtf_replay.specs.Views.{TxnView, begun}
-use Rattle.wtf_clients.specs.Views.{Clients, BesideView, TablesView, of_client, of_label, watching}
-use Rattle.wtf_clients.specs.Sounds.{owned, all_owned, all_kept, IsOpen, AreSound, IsTidied, Sets}
-use Rattle.wtf_clients.specs.Saves.{with_image, only_image, Saves}
-use Rattle.wtf_clients.specs.Turns.{Begins, Ends, Commits, Retries, TryTurn, Tries, Refuses}
-use Rattle.wtf_clients.proofs.Frames.{Turned, open_on, sound_turned}
-use Rattle.wtf_clients.proofs.Images.{none_in}
-use Rattle.wtf_clients.proofs.Lives.{pinned_live, upto_on, saved_reaches, only_kept, added_kept, watching_kept}
-use Rattle.wtf_clients.proofs.Pins.{one_some, base_pinned}
-use Rattle.wtf_clients.proofs.Making.{refusal_of, as_words}
-use Rattle.wtf_clients.proofs.ScanFrames.{sound_scanned}
-use Rattle.wtf_clients.proofs.Staying.{goes_sound, keeps_stays, stays_sound}
+use Rattle.wtf_clients.proofs.Common.{Contains, option_map, remove_key, MatchOption, if◌then◌else◌, Contains-append_left, Contains-push_cases, Fault, StoreKind}
+use Rattle.wtf_clients.proofs.Common.{Dev, Store, times_pinned, is_pinned, IsPinnedOnceMore, count-push, Key, Value, Answer, Aborted', Word, Op, metadata_at}
+use Rattle.wtf_clients.proofs.Common.{call_refusal, try_refusal, step_refusal, IsStepped, IsEnded, IsFit, Turn, turn, CallOf, StepOf, TxnView, begun, Clients}
+use Rattle.wtf_clients.proofs.Common.{BesideView, TablesView, of_client, of_label, watching, owned, all_owned, all_kept, IsOpen, AreSound, IsTidied, Sets}
+use Rattle.wtf_clients.proofs.Common.{with_image, only_image, Saves, Begins, Ends, Commits, Retries, TryTurn, Tries, Refuses, ◌≡◌, ◌≤◌, ℕ, ◌+◌, ◌⊎◌, true}
+use Rattle.wtf_clients.proofs.Common.{false, cond, nat_eq, count_by, IsTrue, List, [], ◌∷◌, Option, None, Some, is_some, Ok, Err, IfSome, refl, sym, ap, ◌∙◌}
+use Rattle.wtf_clients.proofs.Common.{subst, inl, inr, ⊎_elim, true≢false, arith}
+use Rattle.wtf_clients.proofs.{Frames.Turned, Frames.open_on, Frames.sound_turned, Images.none_in, Lives.pinned_live, Lives.upto_on, Lives.saved_reaches}
+use Rattle.wtf_clients.proofs.{Lists.Writes, Lives.only_kept, Lives.added_kept, Lives.watching_kept, Pins.one_some, Pins.base_pinned, Making.refusal_of}
+use Rattle.wtf_clients.proofs.{Making.as_words, ScanFrames.sound_scanned, Staying.goes_sound, Staying.keeps_stays, Staying.stays_sound}
 
 -- ---- a transaction begins
 module _ (old new : TablesView) (c : ℕ) (a : Answer) (sound : AreSound old) (none : of_client old.clients c ≡ None) (begins : Begins old new c a) where
@@ -70,11 +45,11 @@ module _ (old new : TablesView) (c : ℕ) (a : Answer) (sound : AreSound old) (n
 module _ (old new : TablesView) (mid : Store Key Value) (c : ℕ) (x : TxnView) (sound : AreSound old) (here : of_client old.clients c ≡ Some x)
     (up : old.kv.number ≤ mid.number) (ends : Ends old new mid c x) where
   -- the number is what the transaction left
-  ends_number : new.kv.number ≡ mid.number
+  pub ends_number : new.kv.number ≡ mid.number
   ends_number = ap (λ (s : Store Key Value). s.number) ends.kv
 
   -- and so are the maps, which do not read the pins
-  ends_map : (n : ℕ) → metadata_at new.kv n ≡ metadata_at mid n
+  pub ends_map : (n : ℕ) → metadata_at new.kv n ≡ metadata_at mid n
   ends_map n = ap (λ s. metadata_at s n) ends.kv
 
   -- a transaction ends, with its pin
@@ -100,14 +75,12 @@ module _ (old new : TablesView) (mid : Store Key Value) (c : ℕ) (x : TxnView) 
 
 -- a transaction that is given up
 pub dropped_sound : (old : TablesView) (kv : Store Key Value) (clients : Clients) (c : ℕ) → AreSound old → is_some (of_client old.clients c) ≡ true
-    → Sets c None old.clients clients
-    → IfSome (of_client old.clients c) (λ x. kv ≡ record old.kv { pins = remove_key (nat_eq x.at.base) old.kv.pins })
-    → IfSome (of_client old.clients c) (λ x. IsPinnedOnceMore x.at.base kv old.kv)
-    → AreSound (record { kv = kv; next_tx = old.next_tx; clients = clients; beside = old.beside })
+    → Sets c None old.clients clients → IfSome (of_client old.clients c) (λ x. kv ≡ record old.kv { pins = remove_key (nat_eq x.at.base) old.kv.pins })
+    → IfSome (of_client old.clients c) (λ x. IsPinnedOnceMore x.at.base kv old.kv) → AreSound (record old { kv = kv; clients = clients })
 dropped_sound old kv clients c sound some sets is once = by (of_client old.clients c) refl some is once
   where
     left : TablesView
-    left = record { kv = kv; next_tx = old.next_tx; clients = clients; beside = old.beside }
+    left = record old { kv = kv; clients = clients }
 
     by : (o : Option TxnView) → of_client old.clients c ≡ o → is_some o ≡ true
         → IfSome o (λ x. kv ≡ record old.kv { pins = remove_key (nat_eq x.at.base) old.kv.pins })
@@ -131,10 +104,10 @@ module _ (old new : TablesView) (c : ℕ) (x : TxnView) (b n : ℕ) (sound : Are
   again = turn.later
 
   -- it has its number, and the store's as its base
-  retry_tx : again.tx ≡ x.tx
+  pub retry_tx : again.tx ≡ x.tx
   retry_tx = ap (λ (v : TxnView). v.tx) turn.retried.is
 
-  retry_base : again.at.base ≡ n
+  pub retry_base : again.at.base ≡ n
   retry_base = ap (λ (v : TxnView). v.at.base) turn.retried.is
 
   -- it is open at the number
@@ -176,7 +149,7 @@ module _ (old new : TablesView) (c : ℕ) (x : TxnView) (b n : ℕ) (sound : Are
 
 -- a commit never takes the number down
 pub ended_up : (kv after : Store Key Value) (a : Answer) → IsEnded kv after a → kv.number ≤ after.number
-ended_up kv after (answer.Committed n) h = let next = h.0 in let number = h.1 in omega (arith, next, number)
+ended_up kv after (Answer.Committed n) h = let next = h.0 in let number = h.1 in omega (arith, next, number)
 ended_up kv after (Aborted' i box a) h = omega (arith, h)
 ended_up kv after a h = absurd h
 
@@ -186,15 +159,16 @@ refuses_sound old new c w a sound refuses = stays_sound old new c sound (keeps_s
 
 -- ---- a client's transaction that goes on, the store of versions as it was
 module _ {S : Type 0} (kind : StoreKind S) (dev new : Dev S) (old : TablesView) (c : ℕ) (x y : TxnView) (sound : AreSound old)
-    (there : of_client old.clients c ≡ Some x) (clients : Clients) (sets : Sets c (Some y) old.clients clients) where
+    (clients : Clients) (writes : Writes c old.clients x y clients) where
   abbrev by_verb : Turn S
   by_verb = turn kind dev new old.kv old.kv x y
 
   abbrev set : TablesView
-  set = record { kv = old.kv; next_tx = old.next_tx; clients = clients; beside = old.beside }
+  set = record old { clients = clients }
 
   goes : y.tx ≡ x.tx → y.at.base ≡ x.at.base → y.ended ≡ x.ended → IsFit old.kv y → AreSound set
-  goes tx base ended fit = goes_sound old set c x y sound there (record { clients = sets; kv = refl; next_tx = refl; beside = refl }) tx base ended fit
+  goes tx base ended fit = goes_sound old set c x y sound writes.there
+      (record { clients = writes.sets; kv = refl; next_tx = refl; beside = refl }) tx base ended fit
 
   -- as it was
   same : y ≡ x → IsFit old.kv y → AreSound set
@@ -205,7 +179,7 @@ module _ {S : Type 0} (kind : StoreKind S) (dev new : Dev S) (old : TablesView) 
   called_sound o a did = by (call_refusal x) refl
     where
       by : (r : Option Word) → call_refusal x ≡ r → AreSound set
-      by None free = let logged = (did.made (ap (option_map answer.Refused) free)).called.logged in goes logged.tx logged.grows.base logged.ended did.fit
+      by None free = let logged = (did.made (ap (option_map Answer.Refused) free)).called.logged in goes logged.tx logged.grows.base logged.ended did.fit
       by (Some w) word = same (refusal_of Fault x y dev new (call_refusal x) w a word (as_words x y dev new (Ok a) (call_refusal x) did.instead)).1 did.fit
 
   -- or one that failed
@@ -216,7 +190,7 @@ module _ {S : Type 0} (kind : StoreKind S) (dev new : Dev S) (old : TablesView) 
 
   -- by a step
   stepped : (a : Answer) → IsStepped x y a → y.ended ≡ false → IsFit old.kv y → AreSound set
-  stepped (answer.Replayed i) h still fit = goes (ap (λ (q : TxnView). q.tx) h.is) h.base (ap (λ (q : TxnView). q.ended) h.is) fit
+  stepped (Answer.Replayed i) h still fit = goes (ap (λ (q : TxnView). q.tx) h.is) h.base (ap (λ (q : TxnView). q.ended) h.is) fit
   stepped (Aborted' i box a) h still fit = absurd (true≢false (sym h.over.ended ∙ still))
   stepped a h still fit = absurd h
 
@@ -232,14 +206,14 @@ module _ {S : Type 0} (kind : StoreKind S) (dev new : Dev S) (old : TablesView) 
 
 -- ---- an attempt
 -- a commit raises the number
-commit_up : (old new : TablesView) (c : ℕ) (x : TxnView) (n : ℕ) (turn : Commits old new c x n) → old.kv.number ≤ turn.mid.number
+pub commit_up : (old new : TablesView) (c : ℕ) (x : TxnView) (n : ℕ) (turn : Commits old new c x n) → old.kv.number ≤ turn.mid.number
 commit_up old new c x n turn = let number = turn.committed.installed.number in let next = turn.committed.installed.next in omega (arith, number, next)
 
 -- the tables stay sound
 pub tries_sound : (old new : TablesView) (c : ℕ) (x : TxnView) (a : Answer) → AreSound old → of_client old.clients c ≡ Some x → Tries old new c x a
     → AreSound new
-tries_sound old new c x (answer.Committed n) sound here turn = ends_sound old new turn.mid c x sound here (commit_up old new c x n turn) turn.ends
-tries_sound old new c x (answer.Retry b n) sound here turn = retry_sound old new c x b n sound here turn
+tries_sound old new c x (Answer.Committed n) sound here turn = ends_sound old new turn.mid c x sound here (commit_up old new c x n turn) turn.ends
+tries_sound old new c x (Answer.Retry b n) sound here turn = retry_sound old new c x b n sound here turn
 tries_sound old new c x a sound here turn = absurd turn
 
 -- unless it is refused
@@ -290,10 +264,10 @@ module _ (old new : TablesView) (now : BesideView) (sound : AreSound old) (saves
   }
 
 -- an image that is there is of the number, or was there before
-added_cases : (s : BesideView) (k n : ℕ) → Contains (with_image s k).images n → Contains s.images n ⊎ (k ≡ n)
+pub added_cases : (s : BesideView) (k n : ℕ) → Contains (with_image s k).images n → Contains s.images n ⊎ (k ≡ n)
 added_cases s k n there = Contains-push_cases s.images k n there
 
-only_cases : (s : BesideView) (k n : ℕ) → Contains (only_image s k).images n → k ≡ n
+pub only_cases : (s : BesideView) (k n : ℕ) → Contains (only_image s k).images n → k ≡ n
 only_cases s k n there = ⊎_elim (λ never. absurd (none_in n never)) (λ same. same) (Contains-push_cases [] k n there)
 
 -- one image more, and the last one less

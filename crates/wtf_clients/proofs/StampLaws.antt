@@ -1,17 +1,7 @@
 -- The stamps of the machine over a line that begins no scan: whoever is open had its stamp before, or gets the next one.
-use Rattle.std.proofs.Common.{◌≡◌, ◌⊎◌, ℕ, ◌<◌, ◌≤◌, false, ◌||◌, ◌==◌, nat_lt, List, [], ◌∷◌, Some, refl, sym, ap}
-use Rattle.std.proofs.Common.{◌∙◌, subst, inl, inr, arith}
-use Rattle.std.specs.List.{Contains, list_any}
-use Rattle.std.specs.FinMap.{get}
-use Rattle.std.proofs.lemmas.Bool.{ne_eqb, le-ltb}
-use Rattle.std.proofs.lemmas.List.Elements.{Contains-push, Contains-append_left, Contains-append_right}
-use Rattle.wtf_model.specs.Machines.{Machine}
-use Rattle.wtf_model.specs.Scans.{was_open}
-use Rattle.wtf_model.specs.Transaction.{Transaction, Job}
-use Rattle.wtf_replay.specs.Views.{TxnView}
-use Rattle.wtf_compact.specs.Jobs.{JobView}
-use Rattle.wtf_clients.specs.Views.{TablesView, of_client, of_label, was_job}
-use Rattle.wtf_clients.specs.Standing.{StampsStand}
+use Rattle.wtf_clients.proofs.Common.{Contains, list_any, get, ne_eqb, le-ltb, Contains-push, Contains-append_left, Contains-append_right, Machine, was_open}
+use Rattle.wtf_clients.proofs.Common.{Transaction, Job, TxnView, JobView, TablesView, of_client, of_label, was_job, StampsStand, ◌≡◌, ◌⊎◌, ℕ, ◌<◌, ◌≤◌, false}
+use Rattle.wtf_clients.proofs.Common.{◌||◌, ◌==◌, nat_lt, List, [], ◌∷◌, Some, refl, sym, ap, ◌∙◌, subst, inl, inr, arith}
 
 -- a transaction is of the age that it had, or the line began it
 pub record KeptTxn (old : TablesView) (m : Machine) (c : ℕ) (y : TxnView) (u : Transaction) : Type 0 where
@@ -84,10 +74,8 @@ module _ (old new : TablesView) (m after : Machine) (older : (c : ℕ) (x : TxnV
       let later = f.later in
       let begun = st.begun in
       let number = f.number in
-      let bound = ages.scan_tx in (
-        omega (arith, same, later),
-        fresh_open u.stamp f.stamp ∙ sym (le-ltb y.tx new.beside.scan_tx (omega (arith, begun, number, bound))),
-      )
+      let bound = ages.scan_tx in
+      (omega (arith, same, later), fresh_open u.stamp f.stamp ∙ sym (le-ltb y.tx new.beside.scan_tx (omega (arith, begun, number, bound))))
 
   pub stamps_on : StampsStand new after
   stamps_on = record {

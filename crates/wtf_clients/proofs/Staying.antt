@@ -1,47 +1,25 @@
 -- A line that leaves all as it was, refused or answered by a fault.
-use Rattle.std.proofs.Common.{◌≡◌, ◌≤◌, ◌<◌, ℕ, ◌+◌, nat_eq, [], None, Some, refl, sym, ap, ◌∙◌, subst, inr, arith}
-use Rattle.std.specs.Prelude.{if◌then◌else◌}
-use Rattle.std.specs.FinMap.{get}
-use Rattle.wtf_base.specs.declared.fault.Fault.{Fault}
-use Rattle.wtf_base.specs.declared.fault.Fault.TheVariants as fault
-use Rattle.wtf_kv.specs.Stores.{Store, times_pinned, versions_of}
-use Rattle.wtf_values.specs.declared.key.Key.{Key}
-use Rattle.wtf_values.specs.declared.value.Value.{Value}
-use Rattle.wtf_values.specs.Keys.{key_cmp}
-use Rattle.wtf_model.specs.declared.answer.Answer.{Answer}
-use Rattle.wtf_model.specs.declared.answer.Answer.TheVariants as answer
-use Rattle.wtf_model.specs.Machines.{Machine}
-use Rattle.wtf_meta.specs.Contents.{Told}
-use Rattle.wtf_meta.specs.Maps.{metadata_at}
-use Rattle.wtf_meta.specs.Trees.{Stands}
-use Rattle.wtf_meta.proofs.Telling.{TellsOn}
-use Rattle.wtf_replay.specs.Views.{TxnView}
-use Rattle.wtf_replay.specs.Fits.{IsFit}
-use Rattle.wtf_replay.specs.Tried.{KeepsMaps, KeepsVersions, KeepsPins}
-use Rattle.wtf_replay.specs.Causes.{fault_answer}
-use Rattle.wtf_replay.proofs.Keeping.{fit_after}
-use Rattle.wtf_clients.specs.Views.{TablesView, of_client, metadata_now}
-use Rattle.wtf_clients.specs.Sounds.{owned, IsOpen, AreSound, Sets}
-use Rattle.wtf_clients.specs.Standing.{StandsForSlot, TablesStand}
-use Rattle.wtf_clients.specs.Turns.{SetsClientAlone, TablesStay}
-use Rattle.wtf_clients.proofs.SinceLaws.{since_kept}
-use Rattle.wtf_clients.proofs.Frames.{Turned, untouched_same, txn_on, slot_on, sound_turned, stands_kept}
-use Rattle.wtf_clients.proofs.Later.{Stands-later}
+use Rattle.wtf_clients.proofs.Common.{if◌then◌else◌, get, Fault, Store, times_pinned, versions_of, Key, Value, key_cmp, Answer, Machine, Told, metadata_at}
+use Rattle.wtf_clients.proofs.Common.{Stands, TellsOn, TxnView, IsFit, KeepsMaps, KeepsVersions, KeepsPins, fault_answer, fit_after, TablesView, of_client}
+use Rattle.wtf_clients.proofs.Common.{metadata_now, owned, IsOpen, AreSound, Sets, StandsForSlot, TablesStand, SetsClientAlone, TablesStay, ◌≡◌, ◌≤◌, ◌<◌, ℕ}
+use Rattle.wtf_clients.proofs.Common.{◌+◌, nat_eq, [], None, Some, refl, sym, ap, ◌∙◌, subst, inr, arith}
+use Rattle.wtf_clients.proofs.{SinceLaws.since_kept, Frames.Turned, Frames.untouched_same, Frames.txn_on, Frames.slot_on, Frames.sound_turned}
+use Rattle.wtf_clients.proofs.{Frames.stands_kept, Later.Stands-later}
 
 -- the answers to faults of the stores
 abbrev pub IsFault : Answer → Type 0
-IsFault (answer.FaultRead k) = Unit {0}
-IsFault answer.FaultWrite = Unit {0}
-IsFault (answer.FaultPunch k) = Unit {0}
-IsFault (answer.Damaged k) = Unit {0}
+IsFault (Answer.FaultRead k) = Unit {0}
+IsFault Answer.FaultWrite = Unit {0}
+IsFault (Answer.FaultPunch k) = Unit {0}
+IsFault (Answer.Damaged k) = Unit {0}
 IsFault a = ⊥
 
 pub fault_is : (why : Fault) (a : Answer) → fault_answer why ≡ Some a → IsFault a
-fault_is (fault.Read k) a is = subst IsFault (let e : answer.FaultRead k.0 ≡ a = cc in e) tt
-fault_is fault.Write a is = subst IsFault (let e : answer.FaultWrite ≡ a = cc in e) tt
-fault_is (fault.Punch k) a is = subst IsFault (let e : answer.FaultPunch k.0 ≡ a = cc in e) tt
-fault_is (fault.Damaged k) a is = subst IsFault (let e : answer.Damaged k.0 ≡ a = cc in e) tt
-fault_is fault.Memory a is = absurd (let e : None ≡ Some a = is in cc)
+fault_is (Fault.Read k) a is = subst IsFault (let e : Answer.FaultRead k.0 ≡ a = cc in e) tt
+fault_is Fault.Write a is = subst IsFault (let e : Answer.FaultWrite ≡ a = cc in e) tt
+fault_is (Fault.Punch k) a is = subst IsFault (let e : Answer.FaultPunch k.0 ≡ a = cc in e) tt
+fault_is (Fault.Damaged k) a is = subst IsFault (let e : Answer.Damaged k.0 ≡ a = cc in e) tt
+fault_is Fault.Memory a is = absurd (let e : None ≡ Some a = is in cc)
 
 -- the store is what it was
 pub keeps_stays : (old new : TablesView) (c : ℕ) → SetsClientAlone old new c (of_client old.clients c) → TablesStay old new c
@@ -108,13 +86,11 @@ module _ (old new : TablesView) (c : ℕ) (sound : AreSound old) (st : TablesSta
       (slot_on size told later old.kv new.kv m.now m.now [] (of_client old.clients c) (get m.transactions c)
       (λ x t is txn. txn_on size told later old.kv new.kv m.now m.now x t [] on (sound.each c x is).based st.maps
       (subst (λ v. Stands size later x.tx 0 v m.now) (sym now_is) (Stands-later told later on size x.tx 0 (metadata_now old.kv) m.now txn.now))
-      (since_kept old.kv new.kv x.tx x.at.base t.touched txn.since (sound.each c x is).based st.maps st.number st.versions) txn)
-      (stand.each c)))
+      (since_kept old.kv new.kv x.tx x.at.base t.touched txn.since (sound.each c x is).based st.maps st.number st.versions) txn) (stand.each c)))
 
 -- ---- a transaction that goes on at its base
 module _ (old new : TablesView) (c : ℕ) (x y : TxnView) (sound : AreSound old) (here : of_client old.clients c ≡ Some x)
-    (keeps : SetsClientAlone old new c (Some y))
-    (tx : y.tx ≡ x.tx) (base : y.at.base ≡ x.at.base) (going : y.ended ≡ x.ended) (fit : IsFit old.kv y) where
+    (keeps : SetsClientAlone old new c (Some y)) (tx : y.tx ≡ x.tx) (base : y.at.base ≡ x.at.base) (going : y.ended ≡ x.ended) (fit : IsFit old.kv y) where
   -- it is open
   goes_open : IsOpen new.kv new.next_tx y
   goes_open =

@@ -1,50 +1,14 @@
 -- What holds of each byte that tables name, also of those that the lists of bases name, goes on holding over stores that tell.
-use Rattle.std.proofs.Common.{◌≡◌, ℕ, ◌≤◌, Bool, true, List, [], ◌∷◌, length, Option, None, Some, refl, sym, ap, ◌∙◌, subst, arith}
-use Rattle.std.proofs.lemmas.Bool.{true≢false}
-use Rattle.wtf_base.specs.declared.settings.Settings.{Settings}
-use Rattle.wtf_base.specs.Slices.{len_of}
-use Rattle.wtf_base.specs.Places.{places_of}
-use Rattle.wtf_base.specs.declared.slice.Slice.{Slice}
-use Rattle.wtf_dev.specs.Store.{Range, StoreKind, KindLaws}
-use Rattle.wtf_overlay.specs.Origin.{Place}
-use Rattle.wtf_overlay.specs.Spilled.{decoded}
-use Rattle.wtf_replica.specs.Inside.{size_in}
-use Rattle.wtf_ring.specs.Points.{PlaceView}
-use Rattle.wtf_model.specs.declared.answer.Answer.{Answer}
-use Rattle.wtf_model.specs.declared.op.Op.{Op}
-use Rattle.wtf_model.specs.declared.op.Op.TheVariants as op
-use Rattle.wtf_meta.specs.declared.session.Handle.{Handle}
-use Rattle.wtf_meta.specs.Bytes.{FileBytes, ListsBytes, any_slice}
-use Rattle.wtf_meta.specs.Contents.{Told, is_told, is_listed, list_has, lists_in}
-use Rattle.wtf_meta.specs.Files.{FileView}
-use Rattle.wtf_meta.specs.Lists.{ListFact, TellLists}
-use Rattle.wtf_meta.specs.Maps.{Map, metadata_at}
-use Rattle.wtf_meta.specs.Sessions.{SessionView, handle_in}
-use Rattle.wtf_meta.proofs.ListTests.{entries_from, has_list, list_has-true}
-use Rattle.wtf_meta.proofs.Telling.{TellsOn, TellBytes-later, is_told-later, lists_in-later, lists_in-from}
-use Rattle.wtf_meta.proofs.Weaker.{entries_stay, map_stays, maybe_stays, file_bytes_stay}
-use Rattle.wtf_region.specs.declared.dev.Dev.{Dev}
-use Rattle.wtf_region.specs.Apart.{are_apart}
-use Rattle.wtf_region.specs.Devs.{IsSoundDev, GoesOn, RemembersTrue, stores, remembered, told_in, shown_in, between}
-use Rattle.wtf_region.specs.Inside.{is_inside, list_lies_inside}
-use Rattle.wtf_region.proofs.Frames.{shows_told}
-use Rattle.wtf_region.proofs.InsideLaws.{inside_stays, slice_inside, list_inside-to}
-use Rattle.wtf_region.proofs.ListReads.{fetched_is}
-use Rattle.wtf_rw.specs.Ops.{OwnBy}
-use Rattle.wtf_rw.specs.Stored.{SliceBytes}
-use Rattle.wtf_replay.specs.Causes.{IsOwnOf}
-use Rattle.wtf_replay.specs.Insides.{HaveNamed, IsKnown, lists_have}
-use Rattle.wtf_replay.specs.Views.{hand_of}
-use Rattle.wtf_replay.proofs.Later.{Of, tells_on}
-use Rattle.wtf_replay.proofs.Naming.{again_weaker}
-use Rattle.wtf_clients.specs.Views.{TablesView}
-use Rattle.wtf_clients.specs.Named.{TablesBytes, any_byte, has_copies}
-use Rattle.wtf_clients.specs.Outcomes.{Load, IsUnread, IsNoList, HasCause}
-use Rattle.wtf_clients.specs.Serves.{AreBased}
-use Rattle.wtf_clients.specs.Safe.{Went}
-use Rattle.wtf_clients.specs.Telling.{ListedBytes, TellsTables, AreWide, AreWithin, HoldsOfAdded, ServesTold}
-use Rattle.wtf_clients.proofs.Lacking.{AreFullLists}
-use Rattle.wtf_clients.proofs.Unread.{copies_by}
+use Rattle.wtf_clients.proofs.Common.{true≢false, Settings, len_of, places_of, Slice, Range, StoreKind, KindLaws, Place, decoded, size_in, PlaceView, Answer}
+use Rattle.wtf_clients.proofs.Common.{Op, Handle, FileBytes, ListsBytes, any_slice, Told, is_told, is_listed, list_has, lists_in, FileView, ListFact, TellLists}
+use Rattle.wtf_clients.proofs.Common.{Map, metadata_at, SessionView, handle_in, entries_from, has_list, list_has-true, TellsOn, TellBytes-later, is_told-later}
+use Rattle.wtf_clients.proofs.Common.{lists_in-later, lists_in-from, entries_stay, map_stays, maybe_stays, file_bytes_stay, Dev, are_apart, IsSoundDev, GoesOn}
+use Rattle.wtf_clients.proofs.Common.{RemembersTrue, stores, remembered, told_in, shown_in, between, is_inside, list_lies_inside, shows_told, inside_stays}
+use Rattle.wtf_clients.proofs.Common.{slice_inside, list_inside-to, fetched_is, OwnBy, SliceBytes, IsOwnOf, HaveNamed, IsKnown, lists_have, hand_of, Of}
+use Rattle.wtf_clients.proofs.Common.{tells_on, again_weaker, TablesView, TablesBytes, any_byte, has_copies, Load, IsUnread, IsNoList, HasCause, AreBased, Went}
+use Rattle.wtf_clients.proofs.Common.{ListedBytes, TellsTables, AreWide, AreWithin, HoldsOfAdded, ServesTold, ◌≡◌, ℕ, ◌≤◌, Bool, true, List, [], ◌∷◌, length}
+use Rattle.wtf_clients.proofs.Common.{Option, None, Some, refl, sym, ap, ◌∙◌, subst, arith}
+use Rattle.wtf_clients.proofs.{Lacking.AreFullLists, Unread.copies_by}
 
 -- what tables name goes on passing tests that more pass
 pub tables_stay : (P R : List Place → Bool) → ((qs : List Place) → P qs ≡ true → R qs ≡ true) → (Q O : Slice → Bool)
@@ -87,10 +51,8 @@ tables_later size told later P on tables h =
 pub lists_on : (size : ℕ) (told later : Told) (P : List Place → Bool) → TellsOn told later → (fs : List ListFact) → TellLists (lists_in size later) fs
     → ListsBytes P (lists_have size told P) fs
 lists_on size told later P on [] tell = tt
-lists_on size told later P on (f ∷ fs) tell = (
-  λ has. entries_from P f.list (ap (list_has P) (sym tell.0) ∙ listed_later size told later P on f.slice has),
-  lists_on size told later P on fs tell.1,
-)
+lists_on size told later P on (f ∷ fs) tell =
+    (λ has. entries_from P f.list (ap (list_has P) (sym tell.0) ∙ listed_later size told later P on f.slice has), lists_on size told later P on fs tell.1)
 
 -- What is named of tables, over stores that tell them
 module _ {S : Type 0} {kind : StoreKind S} (laws : KindLaws kind) (old new : Dev S) (goes : GoesOn kind old new []) (before : TablesView)
@@ -133,8 +95,7 @@ module _ {S : Type 0} {kind : StoreKind S} (laws : KindLaws kind) (old new : Dev
 -- Each byte of the lists that are read of a file has as many copies as there are replicas, where those had that its bases decoded to.
 pub full_lists : {S : Type 0} (kind : StoreKind S) (old mid new : Dev S) → TellsOn (told_in kind old) (told_in kind new) → mid.settings ≡ old.settings
     → new.settings ≡ old.settings → (ranges : List (ℕ × Range)) → RemembersTrue kind mid ranges
-    → (full : Type 0) (file : FileView) (Q O : Slice → Bool) → FileBytes (is_told (told_in kind mid)) Q file → FileBytes (are_apart ranges) O file
-    → (off n : ℕ)
+    → (full : Type 0) (file : FileView) (Q O : Slice → Bool) → FileBytes (is_told (told_in kind mid)) Q file → FileBytes (are_apart ranges) O file → (off n : ℕ)
     → AreFullLists kind mid new full (lists_have old.settings.region (told_in kind old) (has_copies old.settings.replicas)) file off n
 full_lists kind old mid new on here there ranges cache full file Q O bytes away off n = λ h ps r.
     let now : Told = told_in kind mid in
@@ -161,12 +122,12 @@ module _ {S : Type 0} (kind : StoreKind S) (old new : Dev S) where
   own_by_inside (Some g) place bytes (Some s) h = slice_inside kind (stores new) old.settings s h.1 h.2
 
   pub own_inside : (w : Map) (s : SessionView) (o : Op (List ℕ)) (own : Option Slice) → IsOwnOf kind old new w s o own → Inside own
-  own_inside w s (op.Write f bytes) own h = own_by_inside (handle_in s f) _ bytes own h
-  own_inside w s (op.Append f bytes) own h = own_by_inside (handle_in s f) _ bytes own h
-  own_inside w s (op.Read f n) own h = subst (λ z. Inside z) (sym h) tt
-  own_inside w s (op.Yank f n label) own h = subst (λ z. Inside z) (sym h) tt
-  own_inside w s (op.Peek label off n) own h = subst (λ z. Inside z) (sym h) tt
-  own_inside w s (op.Concat q paths) own h = subst (λ z. Inside z) (sym h) tt
+  own_inside w s (Op.Write f bytes) own h = own_by_inside (handle_in s f) _ bytes own h
+  own_inside w s (Op.Append f bytes) own h = own_by_inside (handle_in s f) _ bytes own h
+  own_inside w s (Op.Read f n) own h = subst (λ z. Inside z) (sym h) tt
+  own_inside w s (Op.Yank f n label) own h = subst (λ z. Inside z) (sym h) tt
+  own_inside w s (Op.Peek label off n) own h = subst (λ z. Inside z) (sym h) tt
+  own_inside w s (Op.Concat q paths) own h = subst (λ z. Inside z) (sym h) tt
   own_inside w s o own h = subst (λ z. Inside z) (sym h.1) tt
 
 -- What a line made of all bytes that are named, from what it kept of the places of each, where they pass a test that each byte passes which it
@@ -180,16 +141,14 @@ module _ {S : Type 0} {kind : StoreKind S} (laws : KindLaws kind) (old new : Dev
   inside_on = inside_stays laws goes.each old.settings lent.shelf
 
   -- a list that is read is the one that its slice decodes to, and lies inside the stores
-  no_list : AreWithin kind (stores old) old.settings before → (k : ℕ)
-      → IsNoList kind (between old new) old.settings (AreBased before) k → ⊥
+  no_list : AreWithin kind (stores old) old.settings before → (k : ℕ) → IsNoList kind (between old new) old.settings (AreBased before) k → ⊥
   no_list within k h =
       let size : ℕ = old.settings.region in
       let was : Told = told_in kind old in
       let P : List Place → Bool = is_inside kind (stores old) old.settings in
       let R : List Place → Bool = is_inside kind (stores new) old.settings in
       let Q : Slice → Bool = lists_have size was P in
-      let found = has_list P (lists_in size was h.slice)
-      (h.passes Q (tables_stay P any_byte (λ qs is. refl) Q Q (λ s is. is) before within)) in
+      let found = has_list P (lists_in size was h.slice) (h.passes Q (tables_stay P any_byte (λ qs is. refl) Q Q (λ s is. is) before within)) in
       let bytes = lists_in-from size was h.slice found.0 found.1 in
       let shown = TellBytes-later was (shown_in kind old) (len_of h.slice) (places_of h.slice) bytes.0 (shows_told laws (stores old)) bytes.1 in
       let same : h.bytes ≡ bytes.0 = fetched_is kind (between old new) h.slice h.bytes k h.read h.whole bytes.0 shown in
@@ -199,9 +158,8 @@ module _ {S : Type 0} {kind : StoreKind S} (laws : KindLaws kind) (old new : Dev
       list_inside-to kind (stores new) old.settings enough found.0 (entries_stay P R inside_on found.0 found.2) in
       true≢false (sym good ∙ h.bad found.0 read)
 
-  pub told_serves : (after : TablesView) (load : Load) (a : Answer)
-      → Went old.settings.region (told_in kind old) (told_in kind new) (HoldsOfAdded kind (between old new) old.settings) before after
-      → Why load a → ServesTold kind (between old new) old.settings (before, after) a
+  pub told_serves : (after : TablesView) (load : Load) (a : Answer) → Went old.settings.region (told_in kind old) (told_in kind new)
+      (HoldsOfAdded kind (between old new) old.settings) before after → Why load a → ServesTold kind (between old new) old.settings (before, after) a
   told_serves after load a went why =
       let size : ℕ = old.settings.region in
       let was : Told = told_in kind old in

@@ -1,73 +1,24 @@
 -- What plans of jobs made of the tables over stores that tell: the list that a spill stored has the bytes that its region had.
-use Rattle.std.proofs.Common.{◌≡◌, ◌∙◌, ℕ, Bool, true, List, [], ◌∷◌, get_or, Option, None, Some, refl, sym, ap, subst, ⊎_elim}
-use Rattle.std.specs.List.{All}
-use Rattle.std.proofs.lemmas.Bool.{cases_Bool}
-use Rattle.std.proofs.lemmas.List.Elements.{All-head, All-tail}
-use Rattle.wtf_base.specs.declared.fault.Fault.{Fault}
-use Rattle.wtf_base.specs.declared.ids.InodeId.{InodeId}
-use Rattle.wtf_base.specs.declared.settings.Settings.{Settings}
-use Rattle.wtf_base.specs.declared.slice.Slice.{Slice}
-use Rattle.wtf_base.specs.Places.{places_of}
-use Rattle.wtf_dev.specs.Store.{StoreKind, KindLaws}
-use Rattle.wtf_overlay.specs.Origin.{Place}
-use Rattle.wtf_kv.specs.Stores.{Store}
-use Rattle.wtf_ring.specs.Points.{IsRing}
-use Rattle.wtf_values.specs.declared.key.Key.{Key}
-use Rattle.wtf_values.specs.declared.region.RegionValue.{RegionValue}
-use Rattle.wtf_values.specs.declared.value.Value.{Value}
-use Rattle.wtf_model.specs.declared.answer.Answer.{Answer}
-use Rattle.wtf_model.specs.declared.answer.Answer.TheVariants as answer
-use Rattle.wtf_model.specs.declared.op.JobKind.{JobKind}
-use Rattle.wtf_meta.specs.Bytes.{EntryBytes, BaseBytes, MaybeBytes, ListSlices, ListsBytes, any_slice}
-use Rattle.wtf_meta.specs.Contents.{Told, is_told, is_listed, lists_in}
-use Rattle.wtf_meta.specs.Files.{end_of}
-use Rattle.wtf_meta.specs.Lists.{ListFact, TellLists, region_facts}
-use Rattle.wtf_meta.specs.Maps.{Map, metadata_at}
-use Rattle.wtf_meta.specs.Trees.{LeadsTo}
-use Rattle.wtf_meta.proofs.ListTests.{list_has-true}
-use Rattle.wtf_meta.proofs.Named.{region_slices}
-use Rattle.wtf_meta.proofs.Telling.{TellsOn, told_from, lists_in-from}
-use Rattle.wtf_meta.proofs.Weaker.{maybe_stays}
-use Rattle.wtf_region.specs.declared.dev.Dev.{Dev}
-use Rattle.wtf_region.specs.Devs.{IsSoundDev, GoesOn, stores, remembered, told_in, inside_of, between}
-use Rattle.wtf_region.specs.Apart.{are_apart}
-use Rattle.wtf_region.specs.Inside.{is_inside}
-use Rattle.wtf_rw.specs.Stored.{SliceBytes}
-use Rattle.wtf_replay.specs.Causes.{fault_answer}
-use Rattle.wtf_replay.specs.Insides.{lists_have}
-use Rattle.wtf_replay.specs.Views.{TxnView}
-use Rattle.wtf_replay.proofs.Later.{tells_on}
-use Rattle.wtf_compact.specs.Jobs.{JobView, job_target, region_in_map, target_region}
-use Rattle.wtf_compact.specs.Planned.{IsUnstoredShort, IsSpilled, IsPlanned, IsPlanFault, spills}
-use Rattle.wtf_clients.specs.Views.{BesideView, TablesView, of_client, of_label, metadata_now}
-use Rattle.wtf_clients.specs.Sounds.{AreSound}
-use Rattle.wtf_clients.specs.Named.{TablesBytes, has_copies}
-use Rattle.wtf_clients.specs.Outcomes.{load_of_job}
-use Rattle.wtf_clients.specs.Serves.{AreBased}
-use Rattle.wtf_clients.specs.JobTurns.{Plans}
-use Rattle.wtf_clients.specs.Safe.{OwnBytes, IsOwnJob, FollowsJob, Went}
-use Rattle.wtf_clients.specs.Telling.{ListedBytes, TellsTables, AreWide, HoldsOfAdded, ServesTold}
-use Rattle.wtf_clients.proofs.Added.{stored_added, added_since}
-use Rattle.wtf_clients.proofs.Caused.{plain_caused}
-use Rattle.wtf_clients.proofs.Goings.{stays_txn, stays_job, own_txn_later, own_job_later}
-use Rattle.wtf_clients.proofs.JobPins.{job_pinned}
-use Rattle.wtf_clients.proofs.JobServing.{region_bytes, short_none, plan_by}
-use Rattle.wtf_clients.proofs.JobTurning.{plan_bytes}
-use Rattle.wtf_clients.proofs.Lives.{now_bytes, pinned_live}
-use Rattle.wtf_clients.proofs.Pins.{number_cases}
-use Rattle.wtf_clients.proofs.SafeLaws.{map_region}
-use Rattle.wtf_clients.proofs.ScanLaws.{own_txn_along, own_job_along}
-use Rattle.wtf_clients.proofs.ToldLaws.{tables_later, lists_on, told_serves}
-use Rattle.wtf_clients.proofs.ToldServing.{all_stays, stays_told}
+use Rattle.wtf_clients.proofs.Common.{All, cases_Bool, All-head, All-tail, Fault, InodeId, Settings, Slice, places_of, StoreKind, KindLaws, Place, Store}
+use Rattle.wtf_clients.proofs.Common.{IsRing, Key, RegionValue, Value, Answer, JobKind, EntryBytes, BaseBytes, MaybeBytes, ListSlices, ListsBytes, any_slice}
+use Rattle.wtf_clients.proofs.Common.{Told, is_told, is_listed, lists_in, end_of, ListFact, TellLists, region_facts, Map, metadata_at, LeadsTo, list_has-true}
+use Rattle.wtf_clients.proofs.Common.{region_slices, TellsOn, told_from, lists_in-from, maybe_stays, Dev, IsSoundDev, GoesOn, stores, remembered, told_in}
+use Rattle.wtf_clients.proofs.Common.{inside_of, between, are_apart, is_inside, SliceBytes, fault_answer, lists_have, TxnView, tells_on, JobView, job_target}
+use Rattle.wtf_clients.proofs.Common.{region_in_map, target_region, IsUnstoredShort, IsSpilled, IsPlanned, IsPlanFault, spills, BesideView, TablesView}
+use Rattle.wtf_clients.proofs.Common.{of_client, of_label, metadata_now, AreSound, TablesBytes, has_copies, load_of_job, AreBased, Plans, OwnBytes, IsOwnJob}
+use Rattle.wtf_clients.proofs.Common.{FollowsJob, Went, ListedBytes, TellsTables, AreWide, HoldsOfAdded, ServesTold, ◌≡◌, ◌∙◌, ℕ, Bool, true, List, [], ◌∷◌}
+use Rattle.wtf_clients.proofs.Common.{get_or, Option, None, Some, refl, sym, ap, subst, ⊎_elim}
+use Rattle.wtf_clients.proofs.{Lives.AreInside, Goings.own_txn_later, Goings.own_job_later, JobTurning.plan_bytes, ToldLaws.tables_later, ToldServing.all_stays}
+use Rattle.wtf_clients.proofs.{Added.stored_added, Caused.plain_caused, JobPins.job_pinned, JobServing.plan_by, SafeLaws.map_region, ToldLaws.told_serves}
+use Rattle.wtf_clients.proofs.{Added.added_since, Goings.stays_txn, Goings.stays_job, Lives.now_bytes, Lives.pinned_live, Pins.number_cases, ToldLaws.lists_on}
+use Rattle.wtf_clients.proofs.{JobServing.region_bytes, JobServing.short_none, ScanLaws.own_txn_along, ScanLaws.own_job_along, ToldServing.stays_told}
 
 -- slices that decode to lists have bytes that are told
 tell_slices : (size : ℕ) (told : Told) (fs : List ListFact) → TellLists (lists_in size told) fs → ListSlices (is_told told) any_slice fs
 tell_slices size told [] tell = tt
 tell_slices size told (f ∷ fs) tell =
-    let was = lists_in-from size told f.slice f.list tell.0 in (
-      ((λ i below. told_from told (places_of f.slice i) (get_or was.0 i 0) (was.1.tells i below)), refl),
-      tell_slices size told fs tell.1,
-    )
+    let was = lists_in-from size told f.slice f.list tell.0 in
+    (((λ i below. told_from told (places_of f.slice i) (get_or was.0 i 0) (was.1.tells i below)), refl), tell_slices size told fs tell.1)
 
 -- and their lists have bytes of which P holds, where it holds of each entry
 have_slices : (size : ℕ) (told : Told) (P : List Place → Bool) (fs : List ListFact) → TellLists (lists_in size told) fs
@@ -106,7 +57,7 @@ value_own P None h = tt
 value_own P (Some x) h = h.base
 
 module _ {S : Type 0} {kind : StoreKind S} (laws : KindLaws kind) (old new : Dev S) (goes : GoesOn kind old new []) (lent : IsSoundDev kind old)
-    (before : TablesView) (sound : AreSound before) (inside : TablesBytes (is_inside kind (stores old) old.settings) any_slice before)
+    (before : TablesView) (sound : AreSound before) (inside : AreInside kind old before)
     (tells : TellsTables kind (stores old) old.settings (remembered old) before) (j : ℕ) (jk : JobKind) (p : List ℕ) (r : ℕ) where
   abbrev told : Told
   told = told_in kind old
@@ -221,8 +172,7 @@ module _ {S : Type 0} {kind : StoreKind S} (laws : KindLaws kind) (old new : Dev
     other_own l y was owned =
         let P : List Place → Bool = is_told told in
         let Q : Slice → Bool = is_listed size told in
-        own_job_along size later before.kv after.kv y (maps y.base)
-        (own_job_later size told later on before.kv y
+        own_job_along size later before.kv after.kv y (maps y.base) (own_job_later size told later on before.kv y
         (map_region P Q (metadata_at before.kv y.base) (tells.names.live y.base (pinned_live before.kv y.base (job_pinned before l y sound was)))
         y.target.inode y.target.region) owned)
 
@@ -252,10 +202,10 @@ module _ {S : Type 0} {kind : StoreKind S} (laws : KindLaws kind) (old new : Dev
           (number_cases l j);
     }
 
-    pub plan_told : ServesTold kind (between old new) old.settings (before, after) answer.Planned
+    pub plan_told : ServesTold kind (between old new) old.settings (before, after) Answer.Planned
     plan_told =
-        told_serves laws old new goes lent before tells after (load_of_job jk) answer.Planned went
-        (plain_caused kind (between old new) old.settings ⊥ (AreBased before) (AreWide old.settings told before) (load_of_job jk) answer.Planned tt)
+        told_serves laws old new goes lent before tells after (load_of_job jk) Answer.Planned went
+        (plain_caused kind (between old new) old.settings ⊥ (AreBased before) (AreWide old.settings told before) (load_of_job jk) Answer.Planned tt)
 
   -- ---- one that failed, of the file to which the path leads
   pub plan_failed_told : IsRing old.settings.servers old.ring.now.points → (i : InodeId) → LeadsTo now p i → (why : Fault) (a : Answer)

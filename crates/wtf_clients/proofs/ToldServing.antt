@@ -1,78 +1,32 @@
 -- What answered lines of clients, and dumps, made of the tables over stores that tell.
-use Rattle.std.proofs.Common.{◌≡◌, ◌⊎◌, ℕ, Bool, true, List, [], Option, None, Some, refl, sym, ap, ◌∙◌, subst, slice_get}
-use Rattle.std.specs.Prelude.{IfSome}
-use Rattle.std.specs.Option.{option_map}
-use Rattle.wtf_base.specs.declared.fault.Fault.{Fault}
-use Rattle.wtf_base.specs.declared.fault.Fault.TheVariants as fault
-use Rattle.wtf_base.specs.declared.ids.InodeId.{InodeId}
-use Rattle.wtf_base.specs.declared.slice.Slice.{Slice}
-use Rattle.wtf_dev.specs.Store.{StoreKind, KindLaws}
-use Rattle.wtf_overlay.specs.Origin.{Place}
-use Rattle.wtf_kv.specs.Stores.{Store}
-use Rattle.wtf_values.specs.declared.key.Key.{Key}
-use Rattle.wtf_values.specs.declared.value.Value.{Value}
-use Rattle.wtf_model.specs.declared.answer.Answer.{Answer, Aborted'}
-use Rattle.wtf_model.specs.declared.answer.Answer.TheVariants as answer
-use Rattle.wtf_model.specs.declared.answer.Word.{Word}
-use Rattle.wtf_model.specs.declared.op.Op.{Op}
-use Rattle.wtf_meta.specs.Bytes.{MapBytes, ListsBytes, any_slice}
-use Rattle.wtf_meta.specs.Contents.{Told, is_told, is_listed}
-use Rattle.wtf_meta.specs.FileEdits.{file_of}
-use Rattle.wtf_meta.specs.Maps.{Map, metadata_at, seen}
-use Rattle.wtf_meta.proofs.MapBytes.{with_bytes}
-use Rattle.wtf_meta.proofs.Named.{file_bytes}
-use Rattle.wtf_meta.proofs.Telling.{TellsOn, is_told-later}
-use Rattle.wtf_region.specs.declared.dev.Dev.{Dev}
-use Rattle.wtf_region.specs.Apart.{are_apart}
-use Rattle.wtf_region.specs.Devs.{IsSoundDev, GoesOn, stores, remembered, told_in, between}
-use Rattle.wtf_region.specs.Inside.{is_inside}
-use Rattle.wtf_region.proofs.Spans.{goes_nowhere}
-use Rattle.wtf_rw.specs.Stored.{SliceBytes}
-use Rattle.wtf_replay.specs.Causes.{FaultAt, ReplayFault, IsCommitFault, fault_answer}
-use Rattle.wtf_replay.specs.Insides.{HandBytes, LogBytes, TxnBytes, NamesTxn, NamesNow, lists_have}
-use Rattle.wtf_replay.specs.Refusals.{call_refusal, step_refusal}
-use Rattle.wtf_replay.specs.Views.{TxnView, hand_of, in_hand}
-use Rattle.wtf_replay.proofs.Later.{Of, tells_on}
-use Rattle.wtf_replay.proofs.RwLaws.{own_known}
-use Rattle.wtf_replay.specs.Replays.{IsStepped}
-use Rattle.wtf_clients.specs.Views.{Clients, TablesView, of_client, metadata_now}
-use Rattle.wtf_clients.specs.Sounds.{AreSound, Sets}
-use Rattle.wtf_clients.specs.Dumped.{LacksDump}
-use Rattle.wtf_clients.specs.Named.{TablesBytes, any_byte, has_copies}
-use Rattle.wtf_clients.specs.Outcomes.{Load, Data, no_load, HasCause, data_of_op}
-use Rattle.wtf_clients.specs.Serves.{NamesTables, IsPlain, AreBased}
-use Rattle.wtf_clients.specs.Safe.{IsOwnTxn, FollowsTxn, Went}
-use Rattle.wtf_clients.specs.Telling.{ListedBytes, TellsTables, AreWide, HoldsOfAdded, ServesTold}
-use Rattle.wtf_clients.specs.Turns.{Ends, TablesStay}
-use Rattle.wtf_clients.proofs.Added.{own_added, own_logged}
-use Rattle.wtf_clients.proofs.Caused.{logged_plain, plain_caused}
-use Rattle.wtf_clients.proofs.Dumping.{dump_caused}
-use Rattle.wtf_clients.proofs.Lacking.{AreFullLists}
-use Rattle.wtf_clients.proofs.Goings.{own_txn_later, client_went, stays_went, ends_went}
-use Rattle.wtf_clients.proofs.Lists.{sets_same}
-use Rattle.wtf_clients.proofs.Lives.{now_bytes, same_reaches}
-use Rattle.wtf_clients.proofs.Making.{answered}
-use Rattle.wtf_clients.proofs.Naming.{keeps_bytes, stays_bytes, leaves_bytes, ends_bytes}
-use Rattle.wtf_clients.proofs.Serving.{step_by, call_by, commit_by}
-use Rattle.wtf_clients.proofs.ToldLaws.{tables_weaker, tables_later, lists_on, named_tell, named_keeps, full_lists, told_serves}
-use Rattle.wtf_replay.specs.Verbs.{Turn, turn, CallOf, StepOf}
-use Rattle.std.specs.Prelude.{Ok, Err}
-use Rattle.wtf_clients.proofs.Making.{as_words, refusal_of}
-use Rattle.wtf_clients.proofs.Lacking.{memory_none}
-use Rattle.wtf_clients.proofs.Serving.{step_plain}
+use Rattle.wtf_clients.proofs.Common.{IfSome, option_map, Fault, InodeId, Slice, StoreKind, KindLaws, Place, Store, Key, Value, Answer, Aborted', Word, Op}
+use Rattle.wtf_clients.proofs.Common.{MapBytes, ListsBytes, any_slice, Told, is_told, is_listed, file_of, Map, metadata_at, seen, with_bytes, file_bytes}
+use Rattle.wtf_clients.proofs.Common.{TellsOn, is_told-later, Dev, are_apart, IsSoundDev, GoesOn, stores, remembered, told_in, between, is_inside, goes_nowhere}
+use Rattle.wtf_clients.proofs.Common.{SliceBytes, FaultAt, ReplayFault, IsCommitFault, fault_answer, HandBytes, LogBytes, TxnBytes, NamesTxn, NamesNow}
+use Rattle.wtf_clients.proofs.Common.{lists_have, call_refusal, step_refusal, TxnView, hand_of, in_hand, Of, tells_on, own_known, IsStepped, Clients}
+use Rattle.wtf_clients.proofs.Common.{TablesView, of_client, metadata_now, AreSound, Sets, LacksDump, TablesBytes, any_byte, has_copies, Load, Data, no_load}
+use Rattle.wtf_clients.proofs.Common.{HasCause, data_of_op, NamesTables, IsPlain, AreBased, IsOwnTxn, FollowsTxn, Went, ListedBytes, TellsTables, AreWide}
+use Rattle.wtf_clients.proofs.Common.{HoldsOfAdded, ServesTold, Ends, TablesStay, Turn, turn, CallOf, StepOf, Ok, Err, ◌≡◌, ◌⊎◌, ℕ, Bool, true, List, []}
+use Rattle.wtf_clients.proofs.Common.{Option, None, Some, refl, sym, ap, ◌∙◌, subst, slice_get}
+use Rattle.wtf_clients.proofs.{Lives.AreInside, Added.own_added, Added.own_logged, Caused.logged_plain, Caused.plain_caused, Dumping.dump_caused}
+use Rattle.wtf_clients.proofs.{Lacking.AreFullLists, Goings.own_txn_later, Goings.client_went, Goings.stays_went, Goings.ends_went, Lists.sets_same}
+use Rattle.wtf_clients.proofs.{Lives.now_bytes, Lives.same_reaches, Making.answered, Naming.keeps_bytes, Naming.stays_bytes, Naming.leaves_bytes}
+use Rattle.wtf_clients.proofs.{Naming.ends_bytes, Serving.step_by, Serving.call_by, Serving.commit_by, ToldLaws.tables_weaker, ToldLaws.tables_later}
+use Rattle.wtf_clients.proofs.{ToldLaws.lists_on, ToldLaws.named_tell, ToldLaws.named_keeps, ToldLaws.full_lists, ToldLaws.told_serves, Making.as_words}
+use Rattle.wtf_clients.proofs.{Making.refusal_of, Lacking.memory_none, Serving.step_plain}
 
 -- the number of a transaction, its base and its log stay
 abbrev KeepsLog : TxnView → TxnView → Type 0
 KeepsLog x y = (y.tx ≡ x.tx) × (y.at.base ≡ x.at.base) × (y.log ≡ x.log)
 
 stepped_by : (x y : TxnView) (a : Answer) → IsStepped x y a → KeepsLog x y
-stepped_by x y (answer.Replayed i) h = (ap (λ (z : TxnView). z.tx) h.is, h.base, ap (λ (z : TxnView). z.log) h.is)
+stepped_by x y (Answer.Replayed i) h = (ap (λ (z : TxnView). z.tx) h.is, h.base, ap (λ (z : TxnView). z.log) h.is)
 stepped_by x y (Aborted' i box a) h = (h.over.tx, h.over.base, h.over.log)
 stepped_by x y a h = absurd h
 
 -- they do in a step
 log_or : {D : Type 0} (x y : TxnView) (before after : D) (a : Answer) (o : Option Word)
-    → IfSome o (λ w. (answered Fault a (answer.Refused w)) × (y ≡ x) × (after ≡ before)) → (o ≡ None → IsStepped x y a) → KeepsLog x y
+    → IfSome o (λ w. (answered Fault a (Answer.Refused w)) × (y ≡ x) × (after ≡ before)) → (o ≡ None → IsStepped x y a) → KeepsLog x y
 log_or x y before after a None stopped stepped = stepped_by x y a (stepped refl)
 log_or x y before after a (Some w) stopped stepped =
     (ap (λ (z : TxnView). z.tx) stopped.1, ap (λ (z : TxnView). z.at.base) stopped.1, ap (λ (z : TxnView). z.log) stopped.1)
@@ -93,7 +47,7 @@ all_stays tables c = record {
 }
 
 module _ {S : Type 0} {kind : StoreKind S} (laws : KindLaws kind) (old new : Dev S) (goes : GoesOn kind old new []) (lent : IsSoundDev kind old)
-    (before : TablesView) (sound : AreSound before) (inside : TablesBytes (is_inside kind (stores old) old.settings) any_slice before)
+    (before : TablesView) (sound : AreSound before) (inside : AreInside kind old before)
     (tells : TellsTables kind (stores old) old.settings (remembered old) before) where
   abbrev told : Told
   told = told_in kind old
@@ -187,8 +141,7 @@ module _ {S : Type 0} {kind : StoreKind S} (laws : KindLaws kind) (old new : Dev
   -- and so it is behind calls that were made once more
   reads_again : (y : TxnView) (why : Fault)
       → ((P : List Place → Bool) (Q : Slice → Bool) → P [] ≡ true → TablesBytes P Q before → HandBytes P Q before.kv (hand_of y) × LogBytes P y.log)
-      → (f : ReplayFault kind old new before.kv y why)
-      → (Wide → ListsBytes (has_copies old.settings.replicas) had f.named.lists)
+      → (f : ReplayFault kind old new before.kv y why) → (Wide → ListsBytes (has_copies old.settings.replicas) had f.named.lists)
       × ((i : InodeId) (off n : ℕ) → AreFullLists kind f.mid new Wide had (file_of i (seen before.kv f.at)) off n)
   reads_again y why own f =
       let mid : Told = told_in kind f.mid in
@@ -213,7 +166,7 @@ module _ {S : Type 0} {kind : StoreKind S} (laws : KindLaws kind) (old new : Dev
       )
 
   pub step_why : (c : ℕ) (x : TxnView) (why : Fault) (a : Answer) → of_client before.clients c ≡ Some x → fault_answer why ≡ Some a
-      → (why ≡ fault.Memory) ⊎ FaultAt kind old new before.kv (hand_of x) (slice_get x.log.ops x.replayed) why → Why no_load a
+      → (why ≡ Fault.Memory) ⊎ FaultAt kind old new before.kv (hand_of x) (slice_get x.log.ops x.replayed) why → Why no_load a
   step_why c x why a there is cause =
       step_by laws old new goes lent before sound inside Wide had (λ h. h) c x why a there is
       (reads_now (seen before.kv x.at) (seen_told c x there) (seen_apart c x there)) cause
@@ -224,7 +177,7 @@ module _ {S : Type 0} {kind : StoreKind S} (laws : KindLaws kind) (old new : Dev
       commit_by laws old new goes lent before sound inside Wide had (λ h. h) c x why a there is (λ y own f. reads_again y why own f) cause
 
   pub dump_why : (p : List ℕ) (why : Fault) (a : Answer) → fault_answer why ≡ Some a
-      → (why ≡ fault.Memory) ⊎ LacksDump kind old new (metadata_now before.kv) p why → Why no_load a
+      → (why ≡ Fault.Memory) ⊎ LacksDump kind old new (metadata_now before.kv) p why → Why no_load a
   dump_why p why a is cause =
       dump_caused laws old new lent (metadata_now before.kv) p (now_bytes (is_inside kind (stores old) old.settings) any_slice before inside)
       (AreBased before) Wide had (λ Q based. now_bytes any_byte Q before based) (λ h. now_bytes (has_copies old.settings.replicas) had before h)
@@ -234,7 +187,7 @@ module _ {S : Type 0} {kind : StoreKind S} (laws : KindLaws kind) (old new : Dev
   -- ---- a client's transaction goes on
   module _ (clients : Clients) (c : ℕ) (x y : TxnView) (there : of_client before.clients c ≡ Some x) (sets : Sets c (Some y) before.clients clients) where
     abbrev called : TablesView
-    called = record { kv = before.kv; next_tx = before.next_tx; clients = clients; beside = before.beside }
+    called = record before { clients = clients }
 
     keeps_told : (P : List Place → Bool) → ListedBytes size told P before → TxnBytes P (lists_have size later P) before.kv y → ListedBytes size later P called
     keeps_told P h own =
@@ -260,8 +213,7 @@ module _ {S : Type 0} {kind : StoreKind S} (laws : KindLaws kind) (old new : Dev
         → ((P : List Place → Bool) → Added P → SliceBytes P own) → Why load a → Served called a
     goes_told load a own named tx base grows back mine why =
         told_serves laws old new goes lent before tells called load a
-        (client_went size told later on Added before called c (Some y) sound sets (λ n le. refl) (same_reaches before.kv before.kv (λ n. refl)) refl
-        tells.names
+        (client_went size told later on Added before called c (Some y) sound sets (λ n le. refl) (same_reaches before.kv before.kv (λ n. refl)) refl tells.names
         (λ P hole added h. keeps_told P h
         (named_keeps laws old new goes before tells (λ R O. TxnBytes R O before.kv x) (λ R O. SliceBytes R own → TxnBytes R O before.kv y)
         (λ R O ok all. all.each c x there) named P hole h (mine P added)))
@@ -300,7 +252,7 @@ module _ {S : Type 0} {kind : StoreKind S} (laws : KindLaws kind) (old new : Dev
       where
         by : (r : Option Word) → call_refusal x ≡ r → Served called a
         by None is =
-            let did = call.made (ap (option_map answer.Refused) is) in
+            let did = call.made (ap (option_map Answer.Refused) is) in
             let keeps = own_known kind old new (seen before.kv x.at) x.session did.called.kept o did.own did.called.kept_is did.stored in
             let logged = own_logged x y o did.own a did.called keeps in
             goes_told (Data (data_of_op o)) a did.own did.named did.called.logged.tx did.called.logged.grows.base logged.0 logged.1
@@ -320,7 +272,7 @@ module _ {S : Type 0} {kind : StoreKind S} (laws : KindLaws kind) (old new : Dev
 
 -- a line that changed nothing
 pub same_told : {S : Type 0} {kind : StoreKind S} → KindLaws kind → (dev : Dev S) → IsSoundDev kind dev → (before after : TablesView) → AreSound before
-    → TablesBytes (is_inside kind (stores dev) dev.settings) any_slice before → after ≡ before → (a : Answer) → IsPlain a
+    → AreInside kind dev before → after ≡ before → (a : Answer) → IsPlain a
     → TellsTables kind (stores dev) dev.settings (remembered dev) before → ServesTold kind (between dev dev) dev.settings (before, after) a
 same_told {kind = kind} laws dev lent before after sound inside same a plain tells =
     stays_told laws dev dev (goes_nowhere laws dev lent) lent before sound inside tells after 0 no_load a

@@ -1,30 +1,11 @@
 -- What others have touched, over an install by another; and why a replay is asked for.
-use Rattle.std.proofs.Common.{◌≡◌, ◌≢◌, ◌⊎◌, ◌<◌, ℕ, Bool, true, false, ◌||◌, List, [], ◌++◌, Option, None, Some, is_some, refl, sym, ap, ◌∙◌}
-use Rattle.std.proofs.Common.{inl, inr, ⊎_elim}
-use Rattle.std.specs.Prelude.{IsSome}
-use Rattle.std.proofs.lemmas.Bool.{cases_Bool, and_parts, both_ways, false_from_ne_true}
-use Rattle.wtf_base.specs.declared.ids.InodeId.{InodeId}
-use Rattle.wtf_kv.specs.Edits.{any_touches, makes_version}
-use Rattle.wtf_kv.specs.Stores.{Store, version_of}
-use Rattle.wtf_occ.specs.Attempts.{Attempted}
-use Rattle.wtf_occ.specs.Tries.{key_in_the_way}
-use Rattle.wtf_model.specs.declared.item.Item.{Item}
-use Rattle.wtf_model.specs.declared.item.Item.TheVariants.{NodeOf, NamesOf, BodyOf, LinksOf}
-use Rattle.wtf_model.specs.Items.{is_among, meets}
-use Rattle.wtf_model.proofs.ItemLaws.{is_among-left, is_among-right, meets-by}
-use Rattle.wtf_values.specs.declared.key.Key.{Key}
-use Rattle.wtf_values.specs.declared.key.Key.TheVariants.{Path, Dir, Inode, Region, Links}
-use Rattle.wtf_values.specs.declared.value.Value.{Value}
-use Rattle.wtf_values.specs.declared.value.Delta.{Delta}
-use Rattle.wtf_values.specs.Keys.{key_cmp}
-use Rattle.wtf_values.specs.Outcomes.{outcome_of}
-use Rattle.wtf_meta.specs.Maps.{Map, Edits, with, metadata_at}
-use Rattle.wtf_meta.specs.Trees.{LeadsTo, Own, Stands}
-use Rattle.wtf_meta.specs.Contents.{Told}
-use Rattle.wtf_model.specs.Tree.{Tree}
-use Rattle.wtf_meta.specs.Feet.{Has, ReadBy, WrittenBy, EachWritten, Feet}
-use Rattle.wtf_meta.proofs.FeetLaws.{read_in_the_way, written_at}
-use Rattle.wtf_clients.specs.Touched.{above, NoneMoved, IsFileStill, Touched, OwnStill}
+use Rattle.wtf_clients.proofs.Common.{IsSome, cases_Bool, and_parts, both_ways, false_from_ne_true, InodeId, any_touches, makes_version, Store, version_of}
+use Rattle.wtf_clients.proofs.Common.{Attempted, key_in_the_way, Item, NodeOf, NamesOf, BodyOf, LinksOf, is_among, meets, is_among-left, is_among-right}
+use Rattle.wtf_clients.proofs.Common.{meets-by, Key, Path, Inode, Region, Links, Value, Delta, key_cmp, outcome_of, Map, Edits, with, metadata_at, LeadsTo, Own}
+use Rattle.wtf_clients.proofs.Common.{Stands, Told, Tree, Has, ReadBy, WrittenBy, EachWritten, Feet, read_in_the_way, written_at, above, NoneMoved, IsFileStill}
+use Rattle.wtf_clients.proofs.Common.{Touched, OwnStill, ◌≡◌, ◌≢◌, ◌⊎◌, ◌<◌, ℕ, Bool, true, false, ◌||◌, List, [], ◌++◌, Option, None, Some, is_some, refl, sym}
+use Rattle.wtf_clients.proofs.Common.{ap, ◌∙◌, inl, inr, ⊎_elim}
+use Rattle.wtf_values.specs.declared.key.Key.TheVariants.{Dir}
 use Rattle.wtf_clients.proofs.AboveLaws.{above-version}
 
 -- an install adds versions of those keys alone of which its changes make one
@@ -34,8 +15,7 @@ IsAdded cs w before after = (q : Key) → after q ≡ true → (before q ≡ tru
 -- ---- what an install makes versions of
 
 -- a key of which the changes make a version was written
-made_written : (w : Map) (W : List Item) (cs : Edits) (q : Key) → EachWritten w W cs → makes_version key_cmp outcome_of cs q (w q) ≡ true
-    → WrittenBy w W q
+made_written : (w : Map) (W : List Item) (cs : Edits) (q : Key) → EachWritten w W cs → makes_version key_cmp outcome_of cs q (w q) ≡ true → WrittenBy w W q
 made_written w W cs q each made =
     written_at w W cs q (w q) each (and_parts (any_touches key_cmp outcome_of cs q (w q)) (is_some (w q) || is_some (with cs w q)) made).0
 
@@ -75,11 +55,7 @@ module _ (other : ℕ) (base old : Map) (before after : Key → Bool) (items : L
       → (Has (NodeOf p) W ⊎ Has (LinksOf p) W) ⊎ (LeadsTo (with cs old) p i × (after (Links i) ≡ false))
   links_by p i to none = ⊎_elim
       (λ there. ⊎_elim
-      (λ now. ⊎_elim
-      (λ was. absurd (both_ways (before (Links i)) none was))
-      (λ written. inl (written p to))
-      (moved_by (Links i) now))
-      (λ no. inr (there, no))
+      (λ now. ⊎_elim (λ was. absurd (both_ways (before (Links i)) none was)) (λ written. inl (written p to)) (moved_by (Links i) now)) (λ no. inr (there, no))
       (cases_Bool (after (Links i))))
       (λ gone. inl (inl gone.0))
       (feet.stays p i to)
@@ -100,15 +76,13 @@ module _ (other : ℕ) (base old : Map) (before after : Key → Bool) (items : L
         (λ still. ⊎_elim
         (λ wrote. inl (is_among-right items W (BodyOf p) wrote))
         (λ none. inr (still_by p i still.0 still.1 none))
-        (cases_Bool (is_among W (BodyOf p))))
-        (touched.bodies p i to);
+        (cases_Bool (is_among W (BodyOf p)))) (touched.bodies p i to);
     links = λ p i to. ⊎_elim
         (λ was. inl (⊎_elim (λ node. inl (is_among-left items W (NodeOf p) node)) (λ links. inr (is_among-left items W (LinksOf p) links)) was))
         (λ still. ⊎_elim
         (λ wrote. inl (⊎_elim (λ node. inl (is_among-right items W (NodeOf p) node)) (λ links. inr (is_among-right items W (LinksOf p) links)) wrote))
         (λ none. inr none)
-        (links_by p i still.0 still.1))
-        (touched.links p i to);
+        (links_by p i still.0 still.1)) (touched.links p i to);
   }
 
 -- where regions and numbers of paths are of files that stand, a file that stands nowhere has none
@@ -160,11 +134,8 @@ touched_none w moved none = record {
 
 pub own_none : (tx : ℕ) (w : Map) (moved : Key → Bool) → ((i : InodeId) → i.tx.0 ≡ tx → w (Inode i) ≡ None) → ((q : Key) → moved q ≡ false)
     → OwnStill tx w moved
-own_none tx w moved gone none = record {
-  none = gone;
-  still = λ i mine. record { inode = none (Inode i); regions = λ r. none (Region i r) };
-  links = λ i mine. none (Links i);
-}
+own_none tx w moved gone none =
+    record { none = gone; still = λ i mine. record { inode = none (Inode i); regions = λ r. none (Region i r) }; links = λ i mine. none (Links i) }
 
 module _ (before after : Key → Bool) (fewer : NoneMoved before after) where
   still_along : (i : InodeId) → IsFileStill before i → IsFileStill after i
@@ -186,21 +157,14 @@ module _ (before after : Key → Bool) (fewer : NoneMoved before after) where
   }
 
   pub own_along : (tx : ℕ) (now : Map) → OwnStill tx now before → OwnStill tx now after
-  own_along tx now own = record {
-    none = own.none;
-    still = λ i mine. still_along i (own.still i mine);
-    links = λ i mine. links_along i (own.links i mine);
-  }
+  own_along tx now own = record { none = own.none; still = λ i mine. still_along i (own.still i mine); links = λ i mine. links_along i (own.links i mine) }
 
 -- ---- the cause of a retry
 
 module _ (tx : ℕ) (base now : Map) (moved : Key → Bool) (items R : List Item) (touched : Touched base now moved items) (own : OwnStill tx now moved) where
   -- the bytes of a file, of whose keys one has moved
   met_body : (p : List ℕ) (i : InodeId) → LeadsTo base p i → Has (BodyOf p) R → (IsFileStill moved i → ⊥) → meets items R ≡ true
-  met_body p i to read not_still = ⊎_elim
-      (λ was. meets-by items R (BodyOf p) was read)
-      (λ still. absurd (not_still still.1))
-      (touched.bodies p i to)
+  met_body p i to read not_still = ⊎_elim (λ was. meets-by items R (BodyOf p) was read) (λ still. absurd (not_still still.1)) (touched.bodies p i to)
 
   -- its number of paths, where that has moved
   met_links : (p : List ℕ) (i : InodeId) → LeadsTo base p i → Has (NodeOf p) R → Has (LinksOf p) R → moved (Links i) ≡ true → meets items R ≡ true
@@ -227,6 +191,5 @@ pub conflict_met : (tx : ℕ) (kv : Store Key Value) (at : Attempted Key Delta) 
     → Feet tx (metadata_at kv at.base) at.reads at.changes R W
     → (q : Key) → key_in_the_way key_cmp outcome_of at kv ≡ Some q → at.base < version_of key_cmp kv kv.number q → meets items R ≡ true
 conflict_met tx kv at now items R W touched own feet q is moved =
-    met tx (metadata_at kv at.base) now (above kv at.base) items R touched own q
-    (read_in_the_way tx (metadata_at kv at.base) R W at kv q feet is)
+    met tx (metadata_at kv at.base) now (above kv at.base) items R touched own q (read_in_the_way tx (metadata_at kv at.base) R W at kv q feet is)
     (above-version kv at.base kv.number q moved)

@@ -1,39 +1,12 @@
 -- A slice that was not read has a byte that was not; and bytes that are no list were so when they were read.
-use Rattle.std.proofs.Common.{◌≡◌, ℕ, ◌+◌, ◌<◌, ◌≤◌, Bool, true, false, List, [], ◌∷◌, length, map, take, get_or, refl, ap, ◌∙◌, subst, arith}
-use Rattle.std.specs.List.{All}
-use Rattle.std.proofs.lemmas.Bool.{eqb-true, eq-eqb}
-use Rattle.std.proofs.lemmas.List.{length-map}
-use Rattle.std.proofs.lemmas.List.Elements.{All-map, All-weaker}
-use Rattle.wtf_base.specs.declared.fault.Fault.TheVariants as fault
-use Rattle.wtf_base.specs.declared.ids.ServerId.{ServerId}
-use Rattle.wtf_base.specs.declared.pointer.Pointer.{Pointer}
-use Rattle.wtf_base.specs.declared.settings.Settings.{Settings}
-use Rattle.wtf_base.specs.declared.slice.Slice.{Slice}
-use Rattle.wtf_base.specs.declared.slice.Extents.{Extents}
-use Rattle.wtf_base.specs.declared.slice.Extents.TheVariants.{One, Two, Three}
-use Rattle.wtf_base.specs.Extents.{IsSound, pointers_to}
-use Rattle.wtf_base.specs.Slices.{pointers_of}
-use Rattle.wtf_base.specs.Places.{place_in}
-use Rattle.wtf_dev.specs.Store.{Kept, StoreKind, KindLaws}
-use Rattle.wtf_overlay.specs.declared.part.Part.{Part}
-use Rattle.wtf_overlay.specs.declared.part.Part.TheVariants.{Held}
-use Rattle.wtf_overlay.specs.declared.part.Piece.{Piece}
-use Rattle.wtf_overlay.specs.Origin.{Place, part_origin}
-use Rattle.wtf_replica.specs.Downs.{is_down}
-use Rattle.wtf_replica.specs.Faults.{AreAllOut, last_server}
-use Rattle.wtf_replica.specs.Outs.{IsOut}
-use Rattle.wtf_replica.specs.Spans.{Span, span}
-use Rattle.wtf_replica.proofs.Spans.{each_kept, out_since}
-use Rattle.wtf_meta.specs.Bytes.{PartBytes, PiecesBytes, SliceBytes}
-use Rattle.wtf_region.specs.declared.dev.Dev.{Dev}
-use Rattle.wtf_region.specs.Devs.{GoesOn, stores, between}
-use Rattle.wtf_region.specs.Inside.{is_inside}
-use Rattle.wtf_region.specs.Showing.{LacksPiece, pieces_in}
-use Rattle.wtf_region.proofs.ListReads.{some_bytes}
-use Rattle.wtf_steps.specs.Faults.{LacksBytes}
-use Rattle.wtf_steps.proofs.FaultWays.{pieces_in-All, All-middle, servers_known}
-use Rattle.wtf_clients.specs.Named.{has_copies}
-use Rattle.wtf_clients.specs.Outcomes.{AscendFrom, last_of, IsLost, IsUnread, IsNoList}
+use Rattle.wtf_clients.proofs.Common.{All, eqb-true, eq-eqb, length-map, All-map, All-weaker, Fault, ServerId, Pointer, Settings, Slice, Extents, One, Two}
+use Rattle.wtf_clients.proofs.Common.{Three, IsSound, pointers_to, pointers_of, place_in, StoreKind, KindLaws, Part, Held, Piece, Place, part_origin, is_down}
+use Rattle.wtf_clients.proofs.Common.{AreAllOut, last_server, IsOut, Span, span, each_kept, out_since, PartBytes, PiecesBytes, Dev, GoesOn, stores, between}
+use Rattle.wtf_clients.proofs.Common.{is_inside, LacksPiece, pieces_in, some_bytes, LacksBytes, pieces_in-All, All-middle, servers_known, has_copies}
+use Rattle.wtf_clients.proofs.Common.{AscendFrom, last_of, IsLost, IsUnread, IsNoList, ◌≡◌, ℕ, ◌+◌, ◌<◌, ◌≤◌, Bool, true, false, List, [], ◌∷◌, length, map}
+use Rattle.wtf_clients.proofs.Common.{take, get_or, refl, ap, ◌∙◌, subst, arith}
+use Rattle.wtf_dev.specs.Store.{Kept}
+use Rattle.wtf_meta.specs.Bytes.{SliceBytes}
 
 -- the places of a byte of a slice go up by server
 ascends : (n i : ℕ) (e : Extents) → IsSound n e → AscendFrom 0 (map (place_in i) (pointers_to n e))
@@ -80,8 +53,7 @@ module _ {S : Type 0} (kind : StoreKind S) (t : Span S) (shelf : List S) (settin
 
   -- a piece that was not shown has such a slice
   unread : (ps : List Piece) (n : ℕ) (full : Type 0) (k : ℕ) → PiecesBytes (is_inside kind shelf settings) ps
-      → (full → PiecesBytes (has_copies settings.replicas) ps)
-      → LacksPiece kind t (pieces_in 0 n ps) k → IsUnread kind t settings full k
+      → (full → PiecesBytes (has_copies settings.replicas) ps) → LacksPiece kind t (pieces_in 0 n ps) k → IsUnread kind t settings full k
   unread ps n full k inside copies lacks =
       let s : Slice = lacks.lacks.slice in
       let of : (P : List Place → Bool) → PiecesBytes P ps → P (part_origin (Held s) 0) ≡ true = λ P all.
@@ -106,8 +78,7 @@ module _ {S : Type 0} (kind : StoreKind S) (t : Span S) (shelf : List S) (settin
 
 -- what was not read in a later part of a span was not read in it
 pub unread_since : {S : Type 0} {kind : StoreKind S} → KindLaws kind → (old mid new : Dev S) (settings : Settings) (full : Type 0) (k : ℕ)
-    → GoesOn kind old mid [] → IsUnread kind (between mid new) settings full k
-    → IsUnread kind (between old new) settings full k
+    → GoesOn kind old mid [] → IsUnread kind (between mid new) settings full k → IsUnread kind (between old new) settings full k
 unread_since {S} {kind} laws old mid new settings full k goes un = record {
   places = un.places;
   lost = record {
@@ -153,7 +124,7 @@ no_list_since {S} {kind} laws old mid new settings based k goes was =
 
 -- bytes that were not shown have one that was not read, where they have their copies
 pub lacks_unread : {S : Type 0} {kind : StoreKind S} → KindLaws kind → (old new : Dev S) (n : ℕ) (Are : List Piece → Type 0) (full : Type 0) (k : ServerId)
-    → (full → (ps : List Piece) → Are ps → PiecesBytes (has_copies old.settings.replicas) ps) → LacksBytes kind old new n Are (fault.Read k) → IsUnread kind
+    → (full → (ps : List Piece) → Are ps → PiecesBytes (has_copies old.settings.replicas) ps) → LacksBytes kind old new n Are (Fault.Read k) → IsUnread kind
     (between old new) old.settings full k.0
 lacks_unread {kind = kind} laws old new n Are full k copies lacks =
     let same = lacks.goes.settings in

@@ -1,42 +1,15 @@
 -- Lines that store nothing: what is named then was named, and whoever is open goes on from who was.
-use Rattle.std.proofs.Common.{◌≡◌, ℕ, Bool, true, false, List, [], Option, None, Some, MatchOption, inl, inr, refl, sym, ap, ◌∙◌, subst, ⊎_elim}
-use Rattle.std.specs.Prelude.{IsTrue, slice_index_or}
-use Rattle.std.proofs.lemmas.List.Elements.{All-nil}
-use Rattle.wtf_overlay.specs.Origin.{Place}
-use Rattle.wtf_kv.specs.Stores.{Store, is_pinned, is_live}
-use Rattle.wtf_values.specs.declared.key.Key.{Key}
-use Rattle.wtf_values.specs.declared.value.Value.{Value}
-use Rattle.wtf_model.specs.declared.answer.Answer.{Answer}
-use Rattle.wtf_model.specs.declared.answer.Answer.TheVariants as answer
-use Rattle.wtf_model.specs.declared.answer.Word.{Word}
-use Rattle.wtf_model.specs.declared.answer.Word.TheVariants.{InTx, NoTx, NoJob}
-use Rattle.wtf_meta.specs.Contents.{Told, is_told, is_listed}
-use Rattle.wtf_meta.specs.Maps.{metadata_at}
-use Rattle.wtf_meta.proofs.Nothing.{nothing_kept}
-use Rattle.wtf_meta.proofs.Telling.{TellsOn}
-use Rattle.wtf_replay.specs.Insides.{lists_have}
-use Rattle.wtf_replay.specs.Refusals.{try_refusal}
-use Rattle.wtf_replay.specs.Views.{TxnView, begun, rebased}
-use Rattle.wtf_compact.specs.Jobs.{JobView}
-use Rattle.wtf_clients.specs.JobTurns.{RefusesJob, Puts, PutTurn, DropsJob, DropTurn}
+use Rattle.wtf_clients.proofs.Common.{IsTrue, Place, Store, Value, Answer, NoJob, begun, Saves, Begins, Tries, TryTurn, Drops, false, [], Option, subst, ⊎_elim}
+use Rattle.wtf_clients.proofs.Common.{slice_index_or, Key, metadata_at, nothing_kept, lists_have, try_refusal, RefusesJob, FollowsTxn, NamesTables, MatchOption}
+use Rattle.wtf_clients.proofs.Common.{All-nil, is_live, is_told, TellsOn, TxnView, rebased, JobView, PutTurn, AreSound, IsTidied, Refuses, Retries, of_label, ℕ}
+use Rattle.wtf_clients.proofs.Common.{is_pinned, is_listed, DropsJob, DropTurn, IsOwnTxn, with_image, only_image, SaveTurn, BesideView, TablesView, of_client}
+use Rattle.wtf_clients.proofs.Common.{Word, InTx, NoTx, Told, Puts, Went, ◌≡◌, Bool, true, List, None, Some, inl, inr, refl, sym, ap, ◌∙◌}
 use Rattle.wtf_clients.specs.Named.{ListedBytes}
-use Rattle.wtf_clients.specs.Safe.{IsOwnTxn, FollowsTxn, Went}
-use Rattle.wtf_clients.specs.Saves.{with_image, only_image, Saves, SaveTurn}
-use Rattle.wtf_clients.specs.Serves.{NamesTables}
-use Rattle.wtf_clients.specs.Sounds.{AreSound, IsTidied}
-use Rattle.wtf_clients.specs.Turns.{Refuses, Begins, Retries, Tries, TryTurn, Drops}
-use Rattle.wtf_clients.specs.Views.{BesideView, TablesView, of_client, of_label}
-use Rattle.wtf_clients.proofs.Goings.{stays_txn, stays_job, own_txn_later, own_job_later, client_went, stays_went, ends_went}
-use Rattle.wtf_clients.proofs.JobFrames.{JobTurned}
-use Rattle.wtf_clients.proofs.JobPins.{job_pinned}
-use Rattle.wtf_clients.proofs.JobTurning.{put_turned, put_reaches, drop_turned, drop_reaches}
-use Rattle.wtf_clients.proofs.Lives.{pinned_live, live_upto, Reaches, same_reaches, begun_reaches, moved_reaches, saved_reaches, same_kept, added_kept}
-use Rattle.wtf_clients.proofs.Lives.{only_kept}
-use Rattle.wtf_clients.proofs.Pins.{base_pinned, number_cases}
-use Rattle.wtf_clients.proofs.SafeLaws.{map_region}
-use Rattle.wtf_clients.proofs.ScanLaws.{own_txn_along, own_job_along}
-use Rattle.wtf_clients.proofs.Staying.{keeps_stays}
-use Rattle.wtf_clients.proofs.ToldLaws.{tables_later}
+use Rattle.wtf_clients.proofs.{Goings.stays_txn, Goings.stays_job, JobPins.job_pinned, Lives.pinned_live, Lives.Reaches, Lives.same_reaches, Pins.number_cases}
+use Rattle.wtf_clients.proofs.{Goings.own_txn_later, Goings.own_job_later, Goings.stays_went, JobFrames.JobTurned, JobTurning.put_turned, ToldLaws.tables_later}
+use Rattle.wtf_clients.proofs.{Goings.client_went, Lives.begun_reaches, Lives.moved_reaches, Lives.saved_reaches, SafeLaws.map_region, Staying.keeps_stays}
+use Rattle.wtf_clients.proofs.{Goings.ends_went, Lives.live_upto, Lives.same_kept, Lives.added_kept, Lives.only_kept, Pins.base_pinned}
+use Rattle.wtf_clients.proofs.{JobTurning.put_reaches, JobTurning.drop_turned, JobTurning.drop_reaches, ScanLaws.own_txn_along, ScanLaws.own_job_along}
 
 -- what stands beside of which a line that is no scan says nothing new, but for the jobs
 record SameScans (old new : BesideView) : Type 0 where
@@ -91,15 +64,14 @@ module _ (size : ℕ) (told later : Told) (on : TellsOn told later) (Added : (Li
       (λ P hole base log. record { hand = record { base = base; changes = tt; slices = nothing_kept P }; log = log }))
 
   tries_went : (c : ℕ) (x : TxnView) (a : Answer) → of_client old.clients c ≡ Some x → Tries old new c x a → Gone
-  tries_went c x (answer.Committed n) there turn = ends_went size told later on Added old new c sound known turn.mid x turn.ends carries
-  tries_went c x (answer.Retry b n) there turn = retries_went c x b n there turn
+  tries_went c x (Answer.Committed n) there turn = ends_went size told later on Added old new c sound known turn.mid x turn.ends carries
+  tries_went c x (Answer.Retry b n) there turn = retries_went c x b n there turn
   tries_went c x a there turn = absurd turn
 
   pub attempt_went : (c : ℕ) (a : Answer) → MatchOption (of_client old.clients c) (Refuses old new c NoTx a) (λ x. TryTurn old new c x a) → Gone
   attempt_went c a turn = by (of_client old.clients c) refl turn
     where
-      live : (x : TxnView) (r : Option Word) → of_client old.clients c ≡ Some x
-          → MatchOption r (Tries old new c x a) (λ w. Refuses old new c w a) → Gone
+      live : (x : TxnView) (r : Option Word) → of_client old.clients c ≡ Some x → MatchOption r (Tries old new c x a) (λ w. Refuses old new c w a) → Gone
       live x None there t = tries_went c x a there t
       live x (Some w) there t = refuse_went c w a t
 
@@ -138,8 +110,7 @@ module _ (size : ℕ) (told later : Told) (on : TellsOn told later) (Added : (Li
       own_jobs = λ owned j y is.
           let was = jobs j y is in
           let live = pinned_live old.kv y.base (job_pinned old j y sound was) in
-          own_job_along size later old.kv new.kv y (maps y.base live)
-          (own_job_later size told later on old.kv y
+          own_job_along size later old.kv new.kv y (maps y.base live) (own_job_later size told later on old.kv y
           (map_region (is_told told) (is_listed size told) (metadata_at old.kv y.base) (known.live y.base live) y.target.inode y.target.region)
           (owned j y was));
     }
@@ -180,11 +151,11 @@ module _ (size : ℕ) (told later : Told) (on : TellsOn told later) (Added : (Li
   same_scans = record { gc = refl; scan_tx = refl; marks = refl }
 
   pub save_went : (Up : Type 0) (a : Answer) → SaveTurn Up old new a → Gone
-  save_went Up (answer.Saved n) (number, up, saves) =
+  save_went Up (Answer.Saved n) (number, up, saves) =
       saves_went (only_image old.beside n) (record { gc = refl; scan_tx = refl; marks = refl }) refl
       (saved_reaches old new (only_image old.beside n) (λ k. only_kept old n k number) saves) saves
-  save_went Up answer.FaultSave (inl saves) = saves_went old.beside same_scans refl (saved_reaches old new old.beside (same_kept old) saves) saves
-  save_went Up answer.FaultSave (inr saves) =
+  save_went Up Answer.FaultSave (inl saves) = saves_went old.beside same_scans refl (saved_reaches old new old.beside (same_kept old) saves) saves
+  save_went Up Answer.FaultSave (inr saves) =
       saves_went (with_image old.beside old.kv.number) (record { gc = refl; scan_tx = refl; marks = refl }) refl
       (saved_reaches old new (with_image old.beside old.kv.number) (added_kept old) saves) saves
   save_went Up a turn = absurd turn
@@ -193,11 +164,7 @@ module _ (size : ℕ) (told later : Told) (on : TellsOn told later) (Added : (Li
   gone_went : (j : ℕ) → JobTurned old new j None → Reaches old.kv new.kv → new.beside.scan_jobs ≡ old.beside.scan_jobs → Gone
   gone_went j turned reach marks =
       leaves_went turned.keeps.clients (λ n live. turned.maps n (live_upto old n sound live)) reach
-      (record {
-        gc = ap (λ (b : BesideView). b.gc) turned.keeps.beside;
-        scan_tx = ap (λ (b : BesideView). b.scan_tx) turned.keeps.beside;
-        marks = marks;
-      })
+      (record { gc = ap (λ (b : BesideView). b.gc) turned.keeps.beside; scan_tx = ap (λ (b : BesideView). b.scan_tx) turned.keeps.beside; marks = marks })
       (λ l y is. ⊎_elim
       (λ same. absurd (let none : None ≡ Some y = sym turned.keeps.jobs.is ∙ ap (of_label new.beside.jobs) (sym same) ∙ is in cc))
       (λ other. sym (turned.keeps.jobs.others l other) ∙ is)

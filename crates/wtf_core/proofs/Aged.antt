@@ -1,78 +1,57 @@
 -- Lines that begin no scan, and do no part of one, leave the scans standing for the machine's.
-use Rattle.std.proofs.Common.{◌≡◌, ◌⊎◌, ℕ, ◌-◌, ◌^◌, true, false, cond, nat_le, min, List, Option, None, Some}
-use Rattle.std.proofs.Common.{refl, sym, ap, ◌∙◌, subst, inl, inr, ⊎_elim}
-use Rattle.std.specs.Prelude.{⊤}
-use Rattle.std.specs.FinMap.{get}
-use Rattle.std.specs.Option.{option_map}
-use Rattle.wtf_base.specs.declared.ids.InodeId.{InodeId}
-use Rattle.wtf_values.specs.declared.key.Key.{Key}
-use Rattle.wtf_values.specs.declared.key.Key.TheVariants.{Path, Dir as DirKey, Inode, Region, Links}
+use Rattle.wtf_core.proofs.Common.{⊤, get, option_map, InodeId, Key, Path, Inode, Region, Links, Value, Answer, Event, Machine, Transaction, Job, path_count}
+use Rattle.wtf_core.proofs.Common.{Tree, TreeNode, File, Told, IsLast, HasFile, Map, metadata_at, count_of, NodeAt, NamesAt, Stands, some_value, TxnView}
+use Rattle.wtf_core.proofs.Common.{JobView, RunView, GcView, TablesView, of_client, of_label, was_job, metadata_now, AreSound, HasKinds, is_region_key}
+use Rattle.wtf_core.proofs.Common.{StandsForSlot, StandsForLabel, TablesStand, ScansStand, live_cases, KeptTxn, FreshTxn, KeptJob, FreshJob, Ages, stamps_on}
+use Rattle.wtf_core.proofs.Common.{◌≡◌, ◌⊎◌, ℕ, ◌-◌, ◌^◌, true, false, cond, nat_le, min, List, Option, None, Some, refl, sym, ap, ◌∙◌, subst, inl, inr, ⊎_elim}
+use Rattle.wtf_values.specs.declared.key.Key.TheVariants.{Dir as DirKey}
 use Rattle.wtf_values.specs.declared.value.Node.TheVariants.{File as FileNode}
-use Rattle.wtf_values.specs.declared.value.Value.{Value}
-use Rattle.wtf_values.specs.declared.value.Value.TheVariants as value
-use Rattle.wtf_model.specs.declared.answer.Answer.{Answer}
-use Rattle.wtf_model.specs.declared.event.Event.{Event}
-use Rattle.wtf_model.specs.Machines.{Machine}
-use Rattle.wtf_model.specs.Transaction.{Transaction, Job}
-use Rattle.wtf_model.specs.Tree.{path_count, Tree, TreeNode, Dir, File}
-use Rattle.wtf_meta.specs.Contents.{Told}
-use Rattle.wtf_meta.specs.FileEdits.{IsLast, HasFile}
-use Rattle.wtf_meta.specs.Maps.{Map, metadata_at}
-use Rattle.wtf_meta.specs.Trees.{count_of, NodeAt, NamesAt, Stands}
-use Rattle.wtf_image.proofs.SaveTree.{some_value}
-use Rattle.wtf_replay.specs.Views.{TxnView}
-use Rattle.wtf_compact.specs.Jobs.{JobView}
-use Rattle.wtf_gc.specs.Views.{RunView, GcView}
-use Rattle.wtf_clients.specs.Views.{TablesView, of_client, of_label, was_job, metadata_now}
-use Rattle.wtf_clients.specs.Sounds.{AreSound}
-use Rattle.wtf_clients.specs.Standing.{HasKinds, is_region_key, StandsForSlot, StandsForLabel, TablesStand, ScansStand}
-use Rattle.wtf_clients.proofs.Lives.{live_cases}
-use Rattle.wtf_clients.proofs.StampLaws.{KeptTxn, FreshTxn, KeptJob, FreshJob, Ages, stamps_on}
+use Rattle.wtf_model.specs.Tree.{Dir}
 use Rattle.wtf_core.proofs.Moves.{KeepsAge, KeepsMark, Aged, Moves}
 use Rattle.wtf_core.proofs.Stamped.{HasStamp, Stamped, txn_stamp, job_stamp, IsOther}
 
 -- ---- keys and their kinds
 -- a value that is no region's
 abbrev IsNoRegion : Option Value → Type 0
-IsNoRegion (Some (value.Region v)) = ⊥
+IsNoRegion (Some (Value.Region v)) = ⊥
 IsNoRegion o = ⊤
 
 count_none : (n : ℕ) → IsNoRegion (count_of n)
-count_none n = elim (nat_le 2 n) as (λ b. IsNoRegion (cond b (Some (value.Count n)) None)) [ true ↦ tt | false ↦ tt ]
+count_none n = elim (nat_le 2 n) as (λ b. IsNoRegion (cond b (Some (Value.Count n)) None)) [ true ↦ tt | false ↦ tt ]
 
 -- in a map that stands for a tree only regions have a region's value
 pub kinds_of : (size : ℕ) (told : Told) (tx k : ℕ) (w : Map) (t : Tree) → Stands size told tx k w t → HasKinds w
 kinds_of size told tx k w t st q v is = by q is
   where
-    body : (i : InodeId) (o : Option TreeNode) → NodeAt size told w (Some (value.Node (FileNode i))) o → HasFile i w
+    body : (i : InodeId) (o : Option TreeNode) → NodeAt size told w (Some (Value.Node (FileNode i))) o → HasFile i w
     body i None h = absurd h
     body i (Some Dir) h = absurd h
     body i (Some (File paths bytes)) h = h.body.has
 
-    count : (i : InodeId) (o : Option TreeNode) → NodeAt size told w (Some (value.Node (FileNode i))) o → IsNoRegion (w (Links i))
+    count : (i : InodeId) (o : Option TreeNode) → NodeAt size told w (Some (Value.Node (FileNode i))) o → IsNoRegion (w (Links i))
     count i None h = absurd h
     count i (Some Dir) h = absurd h
     count i (Some (File paths bytes)) h = subst IsNoRegion (sym h.count) (count_none (path_count paths))
 
-    no_node : (o : Option TreeNode) → NodeAt size told w (Some (value.Region v)) o → ⊥
+    no_node : (o : Option TreeNode) → NodeAt size told w (Some (Value.Region v)) o → ⊥
     no_node None h = h
     no_node (Some Dir) h = h
     no_node (Some (File paths bytes)) h = h
 
-    no_names : (p : List ℕ) (o : Option TreeNode) → NamesAt t p (Some (value.Region v)) o → ⊥
+    no_names : (p : List ℕ) (o : Option TreeNode) → NamesAt t p (Some (Value.Region v)) o → ⊥
     no_names p None h = h
     no_names p (Some Dir) h = h
     no_names p (Some (File paths bytes)) h = h
 
-    by : (r : Key) → w r ≡ Some (value.Region v) → is_region_key r ≡ true
+    by : (r : Key) → w r ≡ Some (Value.Region v) → is_region_key r ≡ true
     by (Path p) there = absurd (no_node (get t p) (subst (λ o. NodeAt size told w o (get t p)) there (st.nodes p)))
     by (DirKey p) there = absurd (no_names p (get t p) (subst (λ o. NamesAt t p o (get t p)) there (st.names p)))
     by (Inode i) there =
-        let led = st.led i (some_value (w (Inode i)) (value.Region v) there) in
+        let led = st.led i (some_value (w (Inode i)) (Value.Region v) there) in
         let has = body i (get t led.0) (subst (λ o. NodeAt size told w o (get t led.0)) led.1 (st.nodes led.0)) in
         absurd (subst IsLast there has.inode)
     by (Links i) there =
-        let led = st.led i (st.counted i (some_value (w (Links i)) (value.Region v) there)) in
+        let led = st.led i (st.counted i (some_value (w (Links i)) (Value.Region v) there)) in
         let none = count i (get t led.0) (subst (λ o. NodeAt size told w o (get t led.0)) led.1 (st.nodes led.0)) in
         absurd (subst IsNoRegion there none)
     by (Region i r) there = refl
@@ -121,6 +100,5 @@ module _ (size : ℕ) (told : Told) (old new : TablesView) (e : Event) (a : Answ
         (λ now. subst (λ k. HasKinds (metadata_at new.kv k)) (sym now) kinds)
         (λ pinned.
         let was = aged.reach n pinned in
-        subst HasKinds (sym (moves.maps n was)) (scans.kinds n was))
-        (live_cases new.kv n live);
+        subst HasKinds (sym (moves.maps n was)) (scans.kinds n was)) (live_cases new.kv n live);
   }

@@ -1,43 +1,15 @@
 -- What answers come of lines, and which servers are down after them.
-use Rattle.std.proofs.Common.{◌≡◌, ℕ, ◌==◌, Bool, true, false, nat_lt, if◌then◌else◌, List, Option, None, Some, MatchOption, refl, sym, ap, ◌∙◌}
-use Rattle.std.proofs.Common.{subst, ⊎_elim, ne_eqb, eq-eqb}
-use Rattle.std.specs.Bool.{MatchBool}
-use Rattle.wtf_dev.specs.Store.{StoreKind}
-use Rattle.wtf_replica.specs.Downs.{is_down}
-use Rattle.wtf_replica.specs.Spans.{Span, span}
-use Rattle.wtf_model.specs.declared.answer.Answer.{Answer}
-use Rattle.wtf_model.specs.declared.answer.Answer.TheVariants as answer
-use Rattle.wtf_model.specs.declared.answer.Word.{Word}
-use Rattle.wtf_model.specs.declared.answer.Word.TheVariants.{InTx, NoTx, NoServer, NoJob}
-use Rattle.wtf_model.specs.declared.event.Event.{Event}
-use Rattle.wtf_model.specs.declared.event.Event.TheVariants as event
-use Rattle.wtf_model.specs.declared.event.Verb.{Verb}
-use Rattle.wtf_model.specs.declared.event.Verb.TheVariants as verb
-use Rattle.wtf_model.specs.Servers.{down_after_event}
-use Rattle.wtf_meta.specs.Bytes.{any_slice}
-use Rattle.wtf_region.specs.Inside.{is_inside}
-use Rattle.wtf_region.proofs.ShowLaws.{reads_nothing}
-use Rattle.wtf_region.specs.Cached.{Remembered}
-use Rattle.wtf_replay.specs.Views.{TxnView}
-use Rattle.wtf_replay.specs.Refusals.{try_refusal}
-use Rattle.wtf_compact.specs.Jobs.{JobView}
-use Rattle.wtf_compact.specs.Putting.{IsJobPut}
-use Rattle.wtf_clients.specs.Views.{TablesView, of_client, of_label}
-use Rattle.wtf_clients.specs.JobTurns.{RefusesJob, Puts, PutTurn, DropsJob, DropTurn}
-use Rattle.wtf_core.specs.Views.{CoreView}
-use Rattle.wtf_clients.specs.Named.{TablesBytes, any_byte, no_slice, has_copies}
-use Rattle.wtf_clients.specs.Outcomes.{Load, no_load, AddsBytes, load_of}
-use Rattle.wtf_clients.specs.Asked.{Lending, line_asked}
-use Rattle.wtf_clients.specs.Seeing.{Seeing}
-use Rattle.wtf_clients.specs.Serves.{NamesTables, IsPlain, AreBased, AreFull, ServesLine}
-use Rattle.wtf_clients.specs.Turns.{Refuses, Tries, LoneTurn, TxnTurn, ClientTurn}
-use Rattle.wtf_core.specs.Turns.{Switches, IsTreeAnswer, LineTurn}
-use Rattle.wtf_clients.proofs.Pins.{number_cases}
+use Rattle.wtf_core.proofs.Common.{MatchBool, StoreKind, is_down, Span, span, Answer, Word, InTx, NoTx, NoServer, NoJob, Event, Verb, down_after_event}
+use Rattle.wtf_core.proofs.Common.{any_slice, is_inside, reads_nothing, Remembered, TxnView, try_refusal, JobView, IsJobPut, TablesView, of_client, of_label}
+use Rattle.wtf_core.proofs.Common.{RefusesJob, Puts, PutTurn, DropsJob, DropTurn, CoreView, TablesBytes, any_byte, no_slice, has_copies, Load, no_load}
+use Rattle.wtf_core.proofs.Common.{AddsBytes, load_of, Lending, line_asked, Seeing, NamesTables, IsPlain, AreBased, AreFull, ServesLine, Refuses, Tries}
+use Rattle.wtf_core.proofs.Common.{LoneTurn, TxnTurn, ClientTurn, Switches, IsTreeAnswer, LineTurn, number_cases, plain_caused, plain_failed, none_placed}
+use Rattle.wtf_core.proofs.Common.{none_added, ◌≡◌, ℕ, ◌==◌, Bool, true, false, nat_lt, if◌then◌else◌, List, Option, None, Some, MatchOption, refl, sym, ap}
+use Rattle.wtf_core.proofs.Common.{◌∙◌, subst, ⊎_elim, ne_eqb, eq-eqb}
 use Rattle.wtf_core.proofs.Naming.{IsLocal}
-use Rattle.wtf_clients.proofs.Caused.{plain_caused, plain_failed, none_placed, none_added}
 
 pub tree_plain : (a : Answer) → IsTreeAnswer a → IsPlain a
-tree_plain (answer.Tree rows) h = tt
+tree_plain (Answer.Tree rows) h = tt
 tree_plain a h = absurd h
 
 -- what is answered to a refused line
@@ -45,8 +17,8 @@ refusal_plain : (old new : TablesView) (c : ℕ) (w : Word) (a : Answer) → Ref
 refusal_plain old new c w a h = subst IsPlain (sym h.answer) tt
 
 tries_plain : (old new : TablesView) (c : ℕ) (x : TxnView) (a : Answer) → Tries old new c x a → IsPlain a
-tries_plain old new c x (answer.Committed n) h = tt
-tries_plain old new c x (answer.Retry b n) h = tt
+tries_plain old new c x (Answer.Committed n) h = tt
+tries_plain old new c x (Answer.Retry b n) h = tt
 tries_plain old new c x a h = absurd h
 
 module _ (z : Seeing) (old new : TablesView) (c : ℕ) where
@@ -59,20 +31,19 @@ module _ (z : Seeing) (old new : TablesView) (c : ℕ) where
   pub local_plain : (v : Verb) (a : Answer) → IsLocal v → ClientTurn z old new c v a → IsPlain a
   local_plain v a local h = by (of_client old.clients c) v local h
     where
-      by : (o : Option TxnView) (u : Verb) → IsLocal u → MatchOption o (LoneTurn z old new c u a)
-          (λ x. TxnTurn z old new c x u a) → IsPlain a
-      by None verb.Begin l g = subst IsPlain (sym g.answer) tt
-      by None verb.Try l g = refusal_plain old new c NoTx a g
-      by None verb.Abort l g = refusal_plain old new c NoTx a g
-      by None verb.Step l g = absurd l
-      by None verb.Commit l g = absurd l
-      by None (verb.Call o) l g = absurd l
-      by (Some x) verb.Begin l g = refusal_plain old new c InTx a g
-      by (Some x) verb.Try l g = or_refused _ (IsPlain a) a (try_refusal x) (tries_plain old new c x a) (λ w. refusal_plain old new c w a) g
-      by (Some x) verb.Abort l g = subst IsPlain (sym g.0) tt
-      by (Some x) verb.Step l g = absurd l
-      by (Some x) verb.Commit l g = absurd l
-      by (Some x) (verb.Call o) l g = absurd l
+      by : (o : Option TxnView) (u : Verb) → IsLocal u → MatchOption o (LoneTurn z old new c u a) (λ x. TxnTurn z old new c x u a) → IsPlain a
+      by None Verb.Begin l g = subst IsPlain (sym g.answer) tt
+      by None Verb.Try l g = refusal_plain old new c NoTx a g
+      by None Verb.Abort l g = refusal_plain old new c NoTx a g
+      by None Verb.Step l g = absurd l
+      by None Verb.Commit l g = absurd l
+      by None (Verb.Call o) l g = absurd l
+      by (Some x) Verb.Begin l g = refusal_plain old new c InTx a g
+      by (Some x) Verb.Try l g = or_refused _ (IsPlain a) a (try_refusal x) (tries_plain old new c x a) (λ w. refusal_plain old new c w a) g
+      by (Some x) Verb.Abort l g = subst IsPlain (sym g.0) tt
+      by (Some x) Verb.Step l g = absurd l
+      by (Some x) Verb.Commit l g = absurd l
+      by (Some x) (Verb.Call o) l g = absurd l
 
 module _ {S : Type 0} (kind : StoreKind S) (t : Span S) (old new : CoreView) (a : Answer) where
   -- ---- which servers are down
@@ -88,29 +59,25 @@ module _ {S : Type 0} (kind : StoreKind S) (t : Span S) (old new : CoreView) (a 
       (λ other. h.others j other ∙ sym (ap (λ b. if b then to else is_down old.replicas j) (ne_eqb j k other)))
       (number_cases j k)
 
-  down_line : (k : ℕ) (b : Bool) → MatchBool b (Switches old new k true a) ((a ≡ answer.Refused NoServer) × (new ≡ old)) → (j : ℕ)
-      → is_down new.replicas j ≡ down_after_event (is_down old.replicas) (event.Down k) a j
-  down_line k true h j = subst (λ r. is_down new.replicas j ≡ down_after_event (is_down old.replicas) (event.Down k) r j) (sym h.answer) (switched k true h j)
-  down_line k false h j = subst (λ r. is_down new.replicas j ≡ down_after_event (is_down old.replicas) (event.Down k) r j) (sym h.0) (same_down h.1 j)
+  down_line : (k : ℕ) (b : Bool) → MatchBool b (Switches old new k true a) ((a ≡ Answer.Refused NoServer) × (new ≡ old)) → (j : ℕ)
+      → is_down new.replicas j ≡ down_after_event (is_down old.replicas) (Event.Down k) a j
+  down_line k true h j = subst (λ r. is_down new.replicas j ≡ down_after_event (is_down old.replicas) (Event.Down k) r j) (sym h.answer) (switched k true h j)
+  down_line k false h j = subst (λ r. is_down new.replicas j ≡ down_after_event (is_down old.replicas) (Event.Down k) r j) (sym h.0) (same_down h.1 j)
 
-  up_line : (k : ℕ) (b : Bool) → MatchBool b (Switches old new k false a) ((a ≡ answer.Refused NoServer) × (new ≡ old)) → (j : ℕ)
-      → is_down new.replicas j ≡ down_after_event (is_down old.replicas) (event.Up k) a j
-  up_line k true h j = subst (λ r. is_down new.replicas j ≡ down_after_event (is_down old.replicas) (event.Up k) r j) (sym h.answer) (switched k false h j)
-  up_line k false h j = subst (λ r. is_down new.replicas j ≡ down_after_event (is_down old.replicas) (event.Up k) r j) (sym h.0) (same_down h.1 j)
+  up_line : (k : ℕ) (b : Bool) → MatchBool b (Switches old new k false a) ((a ≡ Answer.Refused NoServer) × (new ≡ old)) → (j : ℕ)
+      → is_down new.replicas j ≡ down_after_event (is_down old.replicas) (Event.Up k) a j
+  up_line k true h j = subst (λ r. is_down new.replicas j ≡ down_after_event (is_down old.replicas) (Event.Up k) r j) (sym h.answer) (switched k false h j)
+  up_line k false h j = subst (λ r. is_down new.replicas j ≡ down_after_event (is_down old.replicas) (Event.Up k) r j) (sym h.0) (same_down h.1 j)
 
   pub line_downs : (e : Event) → LineTurn kind t old new e a → (j : ℕ) → is_down new.replicas j ≡ down_after_event (is_down old.replicas) e a j
-  line_downs (event.Client c v) h = rest_down new.tables new.lists h.1
-  line_downs (event.Plan j job p r) h = rest_down new.tables new.lists h.1
-  line_downs (event.Put j) h = rest_down new.tables old.lists h.1
-  line_downs (event.DropJob j) h = rest_down new.tables old.lists h.1
-  line_downs event.Scan h = rest_down new.tables old.lists h.1
-  line_downs (event.Piece n) h = rest_down new.tables new.lists h.1
-  line_downs (event.Collect k) h = rest_down new.tables new.lists h.1
-  line_downs (event.Down k) h = down_line k (nat_lt k old.settings.servers) h
-  line_downs (event.Up k) h = up_line k (nat_lt k old.settings.servers) h
-  line_downs (event.Dump p) h = rest_down new.tables new.lists h.1
-  line_downs event.Tree h = same_down h.1
-  line_downs event.Save h = rest_down new.tables old.lists h.1
+  line_downs (Event.Put j) h = rest_down new.tables old.lists h.1
+  line_downs (Event.DropJob j) h = rest_down new.tables old.lists h.1
+  line_downs Event.Scan h = rest_down new.tables old.lists h.1
+  line_downs (Event.Down k) h = down_line k (nat_lt k old.settings.servers) h
+  line_downs (Event.Up k) h = up_line k (nat_lt k old.settings.servers) h
+  line_downs Event.Tree h = same_down h.1
+  line_downs Event.Save h = rest_down new.tables old.lists h.1
+  line_downs e h = rest_down new.tables new.lists h.1
 
 -- ---- lines that were lent no store
 
@@ -119,8 +86,8 @@ pub put_plain : (old new : TablesView) (j : ℕ) (a : Answer) → PutTurn old ne
 put_plain old new j a h = by (of_label old.beside.jobs j) h
   where
     is_put : (x : JobView) (b : Answer) → IsJobPut x old.kv new.kv b → IsPlain b
-    is_put x (answer.Installed n) put = tt
-    is_put x (answer.Stale b n) put = tt
+    is_put x (Answer.Installed n) put = tt
+    is_put x (Answer.Stale b n) put = tt
     is_put x b put = absurd put
 
     by : (o : Option JobView) → MatchOption o (RefusesJob old new NoJob a) (λ x. Puts old new j x a) → IsPlain a
@@ -135,8 +102,7 @@ drop_plain old new j a h = by (of_label old.beside.jobs j) h
     by (Some x) g = subst IsPlain (sym g.answer) tt
 
 -- nor is a server that goes down, or comes up, which leaves the tables
-pub server_plain : (old new : CoreView) (k : ℕ) (to b : Bool) (a : Answer)
-    → MatchBool b (Switches old new k to a) ((a ≡ answer.Refused NoServer) × (new ≡ old))
+pub server_plain : (old new : CoreView) (k : ℕ) (to b : Bool) (a : Answer) → MatchBool b (Switches old new k to a) ((a ≡ Answer.Refused NoServer) × (new ≡ old))
     → IsPlain a × (new.tables ≡ old.tables)
 server_plain old new k to true a h = (subst IsPlain (sym h.answer) tt, ap (λ (core : CoreView). core.tables) h.rest)
 server_plain old new k to false a h = (subst IsPlain (sym h.0) tt, ap (λ (core : CoreView). core.tables) h.1)

@@ -1,43 +1,16 @@
 -- What can be read stays, and the stores tell the lists of its bases as before: so what the versions that are kept name stays, and what scans found
 -- of it, and how far a quiet ending has come.
-use Rattle.std.proofs.Common.{◌≡◌, ℕ, Bool, ◌||◌, cond, nat_eq, nat_lt, List, length, Option, None, Some, refl, sym, ◌∙◌, ap, subst}
-use Rattle.std.proofs.Common.{◌-◌, inl, inr, arith}
-use Rattle.std.specs.Prelude.{IsTrue}
-use Rattle.std.specs.List.{list_any}
-use Rattle.std.specs.Option.{option_map, unwrap_or}
-use Rattle.std.proofs.lemmas.Bool.{cases_lt}
-use Rattle.std.proofs.lemmas.Option.{slice_get_past}
-use Rattle.wtf_base.specs.declared.ids.InodeId.{InodeId}
-use Rattle.wtf_base.specs.declared.settings.Settings.{Settings}
-use Rattle.wtf_base.specs.Places.{Place}
-use Rattle.wtf_base.proofs.Elements.{element}
-use Rattle.wtf_dev.specs.Store.{StoreKind}
-use Rattle.wtf_overlay.specs.declared.part.Entry.{Entry}
-use Rattle.wtf_replica.specs.Bytes.{byte_at}
-use Rattle.wtf_replica.specs.Inside.{size_in}
-use Rattle.wtf_replica.specs.Outs.{SameLengths}
-use Rattle.wtf_replica.proofs.InsideLaws.{size_in-at}
-use Rattle.wtf_kv.specs.Stores.{Store, is_live}
-use Rattle.wtf_values.specs.declared.key.Key.{Key}
-use Rattle.wtf_values.specs.declared.key.Key.TheVariants.{Region}
-use Rattle.wtf_values.specs.declared.region.RegionValue.{RegionValue}
-use Rattle.wtf_values.specs.declared.region.Spill.{Spill}
-use Rattle.wtf_values.specs.declared.value.Value.{Value}
-use Rattle.wtf_values.specs.declared.value.Value.TheVariants as value
-use Rattle.wtf_meta.specs.Contents.{Told, lists_in}
-use Rattle.wtf_meta.specs.Lists.{Lists, or_none}
-use Rattle.wtf_meta.specs.Maps.{Map, metadata_at}
-use Rattle.wtf_gc.specs.Named.{list_has, own_has, under_has, region_has}
-use Rattle.wtf_gc.specs.Views.{ScanView, RunView, length_in}
-use Rattle.wtf_core.specs.Quiet.{MapNames, KeptNames, PartsName, HasScanned, HasBegun, Stage, Saved, Scans, Scanned, ScansAgain, ScannedTwice}
-use Rattle.wtf_core.specs.Quiet.{IsKeptByte, IsScanned, IsBegun, HasScans}
-use Rattle.wtf_core.specs.Views.{CoreView}
+use Rattle.wtf_core.proofs.Common.{IsTrue, Place, Entry, Store, Region, Spill, Value, Lists, own_has, RunView, Scanned, IsBegun, nat_eq, nat_lt, length, Option}
+use Rattle.wtf_core.proofs.Common.{list_any, unwrap_or, cases_lt, StoreKind, Key, under_has, length_in, KeptNames, PartsName, ScansAgain, IsKeptByte, IsScanned}
+use Rattle.wtf_core.proofs.Common.{option_map, slice_get_past, InodeId, SameLengths, size_in-at, RegionValue, metadata_at, region_has, HasScanned, ScannedTwice}
+use Rattle.wtf_core.proofs.Common.{Settings, element, byte_at, size_in, is_live, lists_in, or_none, list_has, ScanView, MapNames, HasBegun, HasScans, CoreView}
+use Rattle.wtf_core.proofs.Common.{Told, Map, Stage, Saved, Scans, ◌≡◌, ℕ, Bool, ◌||◌, cond, List, None, Some, refl, sym, ◌∙◌, ap, subst, ◌-◌, inl, inr, arith}
 use Rattle.wtf_core.proofs.Idling.{kept_same}
 
 -- ---- what a map names, over stores that tell the lists of its bases as others do
 abbrev pub SameBases : ℕ → Told → Told → Map → Type 0
 SameBases size told later w =
-    (i : InodeId) (r : ℕ) (v : RegionValue) (s : Spill) → w (Region i r) ≡ Some (value.Region v) → v.base ≡ Some s
+    (i : InodeId) (r : ℕ) (v : RegionValue) (s : Spill) → w (Region i r) ≡ Some (Value.Region v) → v.base ≡ Some s
     → lists_in size later s.slice ≡ lists_in size told s.slice
 
 under_same : (lists others : Lists) (base : Option Spill) (p : Place) → ((s : Spill) → base ≡ Some s → others s.slice ≡ lists s.slice)
@@ -61,7 +34,7 @@ module _ (size : ℕ) (told later : Told) (w v : Map) (is : v ≡ w) (same : Sam
 
   pub names_back : (p : Place) → MapNames size later v p → MapNames size told w p
   names_back p h =
-      let there : w (Region h.inode h.region) ≡ Some (value.Region h.row) = ap (λ (m : Map). m (Region h.inode h.region)) (sym is) ∙ h.there in
+      let there : w (Region h.inode h.region) ≡ Some (Value.Region h.row) = ap (λ (m : Map). m (Region h.inode h.region)) (sym is) ∙ h.there in
       record {
         inode = h.inode;
         region = h.region;
@@ -80,11 +53,7 @@ pub record ReadsSame (old new : Store Key Value) : Type 0 where
 -- a store of the same number and pins
 pub reads_same : (old new : Store Key Value) → new.number ≡ old.number → new.pins ≡ old.pins
     → ((n : ℕ) → IsTrue (is_live old n) → metadata_at new n ≡ metadata_at old n) → ReadsSame old new
-reads_same old new number pins maps = record {
-  on = λ n live. same n ∙ live;
-  back = λ n live. sym (same n) ∙ live;
-  maps = maps;
-}
+reads_same old new number pins maps = record { on = λ n live. same n ∙ live; back = λ n live. sym (same n) ∙ live; maps = maps }
   where
     same : (n : ℕ) → is_live new n ≡ is_live old n
     same n =

@@ -1,70 +1,25 @@
 -- Attempts, replayed steps, commits and ends keep what the tables stand for.
 -- NSDI 2016, sections 2.6 and 2.7.
-use Rattle.std.proofs.Common.{◌≡◌, ◌≢◌, suc, ◌≤◌, ◌<◌, ◌^◌, ℕ, ◌+◌, ◌-◌, Bool, true, false, List, [], length, take, None, Some}
-use Rattle.std.proofs.Common.{refl, sym, ap, ◌∙◌, subst, arith, slice_get}
-use Rattle.std.proofs.Math.Seq.{take-length}
-use Rattle.std.proofs.lemmas.Bool.{eqb-true}
-use Rattle.std.specs.Prelude.{if◌then◌else◌}
-use Rattle.std.specs.Option.{option_map}
-use Rattle.std.specs.FinMap.{get, remove, len}
-use Rattle.wtf_base.specs.declared.ids.InodeId.{InodeId}
-use Rattle.wtf_kv.specs.Stores.{Store, versions_of, version_of}
-use Rattle.wtf_values.specs.declared.key.Key.{Key}
-use Rattle.wtf_values.specs.declared.key.Key.TheVariants.{Inode}
-use Rattle.wtf_values.specs.declared.value.Value.{Value}
-use Rattle.wtf_values.specs.Keys.{key_cmp}
-use Rattle.wtf_model.specs.declared.answer.Answer.{Answer, Aborted'}
-use Rattle.wtf_model.specs.declared.answer.Answer.TheVariants as answer
-use Rattle.wtf_model.specs.declared.item.Item.{Item}
-use Rattle.wtf_model.specs.Tree.{Tree}
-use Rattle.wtf_model.specs.Transaction.{Transaction, answers_of, session_after}
-use Rattle.wtf_model.specs.Machines.{Machine, cap_of}
-use Rattle.wtf_model.specs.declared.answer.Word.TheVariants.{Replaying}
-use Rattle.wtf_model.specs.declared.op.Op.{Op}
-use Rattle.wtf_model.specs.Items.{meets, reads_of, writes_of}
-use Rattle.wtf_model.specs.Lawful.{Deviates, IsDone, IsReadFault, MayInstall, MayTry, MayStep, MayCommit}
-use Rattle.wtf_model.specs.Steps.{with_transaction, ended, touch, touch_job, with_each, installed, rebased as machine_rebased, tried, stepped, committed}
-use Rattle.wtf_model.proofs.Laws.{get-number_same, get-number_other}
-use Rattle.wtf_model.proofs.ItemLaws.{get-each, get-each_none}
-use Rattle.wtf_model.specs.declared.limits.TheConstants.{MAX_LOGGED}
-use Rattle.wtf_model.proofs.Growth.{len-session_after}
-use Rattle.wtf_log.proofs.StandingLaws.{OpsStandFor-length, OpsStandFor-form}
-use Rattle.wtf_meta.specs.Maps.{Map, with, metadata_at}
-use Rattle.wtf_meta.specs.Contents.{Told}
-use Rattle.wtf_meta.specs.Trees.{Stands}
-use Rattle.wtf_meta.proofs.Telling.{TellsOn}
-use Rattle.wtf_meta.specs.Calls.{cap_for}
-use Rattle.wtf_meta.specs.Feet.{Feet}
-use Rattle.wtf_replay.specs.Views.{TxnView, is_txn_live}
-use Rattle.wtf_replay.specs.Fits.{IsFit, IsLog}
-use Rattle.wtf_replay.specs.Refusals.{try_refusal, step_refusal}
-use Rattle.wtf_replay.specs.Sounds.{LogStands, tells_slice, caller_at}
-use Rattle.wtf_replay.specs.Tried.{IsFinal, KeepsVersions}
-use Rattle.wtf_replay.proofs.Sounding.{sound_later}
-use Rattle.wtf_replay.proofs.Trying.{final_ran}
-use Rattle.wtf_replay.proofs.Deviating.{at_base}
-use Rattle.wtf_clients.specs.Views.{TablesView, of_client, metadata_now}
-use Rattle.wtf_clients.specs.Seeing.{Seeing}
-use Rattle.wtf_clients.specs.Sounds.{AreSound}
-use Rattle.wtf_clients.specs.Touched.{SinceBase}
-use Rattle.wtf_clients.specs.Standing.{StandsForTxn, StandsForSlot, TablesStand}
-use Rattle.wtf_clients.specs.Turns.{AreTrue, SetsClientAlone, Ends, Commits, Retries, Tries, Replays, Aborts, StepFails, Finishes, GivesUp, StepTurn, Finals}
-use Rattle.wtf_clients.proofs.Images.{before_same, before_own}
-use Rattle.wtf_clients.proofs.Later.{Stands-later}
-use Rattle.wtf_clients.proofs.TouchLaws.{has_none}
-use Rattle.wtf_clients.proofs.SinceLaws.{since_none, touched_installed, since_installed, retry_met}
-use Rattle.wtf_clients.proofs.Frames.{Turned, stands_turned, stands_kept}
-use Rattle.wtf_clients.proofs.Soundness.{ends_turned, retry_turned}
-use Rattle.wtf_clients.proofs.Staying.{stays_stand, goes_turned}
-use Rattle.wtf_core.specs.Standing.{IsSmall}
+use Rattle.wtf_core.proofs.Common.{take-length, eqb-true, if◌then◌else◌, option_map, get, remove, len, InodeId, Store, versions_of, version_of, Key, Inode}
+use Rattle.wtf_core.proofs.Common.{Value, key_cmp, Answer, Aborted', Item, Tree, Transaction, answers_of, session_after, Machine, cap_of, Replaying, Op, meets}
+use Rattle.wtf_core.proofs.Common.{reads_of, writes_of, Deviates, IsDone, IsReadFault, MayInstall, MayTry, MayStep, MayCommit, with_transaction, ended, touch}
+use Rattle.wtf_core.proofs.Common.{touch_job, with_each, installed, tried, stepped, committed, get-number_same, get-number_other, get-each, get-each_none}
+use Rattle.wtf_core.proofs.Common.{MAX_LOGGED, len-session_after, OpsStandFor-length, OpsStandFor-form, Map, with, metadata_at, Told, Stands, TellsOn, cap_for}
+use Rattle.wtf_core.proofs.Common.{Feet, TxnView, is_txn_live, IsFit, IsLog, try_refusal, step_refusal, LogStands, tells_slice, caller_at, IsFinal}
+use Rattle.wtf_core.proofs.Common.{KeepsVersions, sound_later, final_ran, at_base, TablesView, of_client, metadata_now, Seeing, AreSound, SinceBase}
+use Rattle.wtf_core.proofs.Common.{StandsForTxn, StandsForSlot, TablesStand, AreTrue, SetsClientAlone, Ends, Retries, Tries, Replays, Aborts, StepFails}
+use Rattle.wtf_core.proofs.Common.{Finishes, GivesUp, StepTurn, Finals, before_same, before_own, Stands-later, has_none, since_none, touched_installed}
+use Rattle.wtf_core.proofs.Common.{since_installed, retry_met, Turned, stands_turned, stands_kept, ends_turned, retry_turned, stays_stand, goes_turned, IsSmall}
+use Rattle.wtf_core.proofs.Common.{◌≡◌, ◌≢◌, suc, ◌≤◌, ◌<◌, ◌^◌, ℕ, ◌+◌, ◌-◌, Bool, true, false, List, [], length, take, None, Some, refl, sym, ap, ◌∙◌, subst}
+use Rattle.wtf_core.proofs.Common.{arith, slice_get, commit_up, ends_map, ends_number, retry_base, retry_tx}
+use Rattle.wtf_model.specs.Steps.{rebased as machine_rebased}
 use Rattle.wtf_core.proofs.Machines.{gone_here, gone_there, cap_is, answer_shown}
 
 -- ---- one client's transaction
 
 -- where the tables stand for the machine, so does a client's transaction
 pub txn_in : (size : ℕ) (told : Told) (old : TablesView) (m : Machine) (c : ℕ) (x : TxnView) (t : Transaction) → TablesStand size told old m
-    → of_client old.clients c ≡ Some x → get m.transactions c ≡ Some t
-    → StandsForTxn size told old.kv m.now x t
+    → of_client old.clients c ≡ Some x → get m.transactions c ≡ Some t → StandsForTxn size told old.kv m.now x t
 txn_in size told old m c x t st here there =
     subst (λ o. StandsForSlot size told old.kv m.now (Some x) o) there
     (subst (λ s. StandsForSlot size told old.kv m.now s (get m.transactions c)) here (st.each c))
@@ -111,16 +66,12 @@ few_behind size told kv now x t cap log txn small =
 module _ (old new : TablesView) (mid : Store Key Value) (c : ℕ) (x : TxnView) (sound : AreSound old) (here : of_client old.clients c ≡ Some x)
     (up : old.kv.number ≤ mid.number) (ends : Ends old new mid c x) where
   -- the number is what the transaction left
-  ends_number : new.kv.number ≡ mid.number
-  ends_number = ap (λ (s : Store Key Value). s.number) ends.kv
+  number_left : new.kv.number ≡ mid.number
+  number_left = ends_number old new mid c x sound here up ends
 
-  -- and so are the maps, which do not read the pins
-  ends_map : (n : ℕ) → metadata_at new.kv n ≡ metadata_at mid n
-  ends_map n = ap (λ s. metadata_at s n) ends.kv
-
-  -- the map now is the one that it left
+  -- and so is the map now
   ends_now : metadata_now new.kv ≡ metadata_now mid
-  ends_now = ap (λ n. metadata_at new.kv n) ends_number ∙ ends_map mid.number
+  ends_now = ap (λ n. metadata_at new.kv n) number_left ∙ ends_map old new mid c x sound here up ends mid.number
 
   -- a transaction ends, with its pin
   end_turned : Turned old new c None
@@ -134,7 +85,7 @@ module _ (old new : TablesView) (mid : Store Key Value) (c : ℕ) (x : TxnView) 
   pub leaves_stand : (size : ℕ) (told later : Told) (m : Machine) → TablesStand size told old m → TellsOn told later → mid.number ≡ old.kv.number
       → KeepsVersions old.kv mid → TablesStand size later new (ended m c)
   leaves_stand size told later m st on same versions =
-      stands_kept size told later old new m (ended m c) c None sound st on end_turned (ends_number ∙ same) (λ q. ends_versions q ∙ versions q)
+      stands_kept size told later old new m (ended m c) c None sound st on end_turned (number_left ∙ same) (λ q. ends_versions q ∙ versions q)
       (λ d ne. gone_there m.transactions c d ne) refl refl refl refl
       (subst (λ o. StandsForSlot size later new.kv m.now None o) (sym (gone_here m.transactions c)) tt)
 
@@ -163,36 +114,30 @@ module _ (old new : TablesView) (mid : Store Key Value) (c : ℕ) (x : TxnView) 
         stands_turned size told later old new m (installed m c t n) c None wrote sound st on end_turned
             (λ d ne. get-each (touch wrote) (remove m.transactions c) d ∙ ap (option_map (touch wrote)) (gone_there m.transactions c d ne))
             (λ d y items ne its since. since_installed x.tx old.kv new.kv final.at.reads final.at.changes n read wrote feet ran.own
-            (has_none _ _ _ _ _ _ txn.now)
-            (has_none _ _ _ _ _ _ stands) map
+            (has_none _ _ _ _ _ _ txn.now) (has_none _ _ _ _ _ _ stands) map
             (λ q. ends_versions q ∙ final.versions q) y.tx y.at.base items
             (λ same. ne (sound.apart d c y x its here same))
             (end_turned.maps y.at.base (sound.each d y its).based) since)
             (λ l. get-each (touch_job wrote) m.jobs l)
             (λ base items based was. touched_installed x.tx old.kv new.kv final.at.reads final.at.changes n read wrote feet ran.own
-            (has_none _ _ _ _ _ _ txn.now)
-            (has_none _ _ _ _ _ _ stands) map
+            (has_none _ _ _ _ _ _ txn.now) (has_none _ _ _ _ _ _ stands) map
             (λ q. ends_versions q ∙ final.versions q) base items (end_turned.maps base based) was)
-            (sym (ends_number ∙ final.number)) refl
-            (before_same old.next_tx new.next_tx changed (metadata_now new.kv) map end_turned.more
+            (sym (number_left ∙ final.number)) refl (before_same old.next_tx new.next_tx changed (metadata_now new.kv) map end_turned.more
             (before_own x.tx old.next_tx (metadata_now old.kv) changed (sound.each c x here).older ran.own st.before))
             (subst (λ o. StandsForSlot size later new.kv now None o) (sym gone) tt)
             (λ tx other was.
-            subst (λ w. Stands size later tx 0 w now) (sym map)
-            (stands_other size later x.tx tx (length t.ops) changed now stands
+            subst (λ w. Stands size later tx 0 w now) (sym map) (stands_other size later x.tx tx (length t.ops) changed now stands
             (λ i own some. ran.own i (λ e. other x here (sym own ∙ e)) (was.fresh i own some))
             (few_behind size told old.kv m.now x t (cap_of m) (sound.each c x here).fit.log txn small))),
       )
 
 -- ---- a transaction that goes on at its base
 module _ (old new : TablesView) (c : ℕ) (x y : TxnView) (sound : AreSound old) (here : of_client old.clients c ≡ Some x)
-    (keeps : SetsClientAlone old new c (Some y))
-    (tx : y.tx ≡ x.tx) (base : y.at.base ≡ x.at.base) (going : y.ended ≡ x.ended) (fit : IsFit old.kv y) where
+    (keeps : SetsClientAlone old new c (Some y)) (tx : y.tx ≡ x.tx) (base : y.at.base ≡ x.at.base) (going : y.ended ≡ x.ended) (fit : IsFit old.kv y) where
   -- the tables stand for the machine with this transaction, where that has the base and the tree that it had
   pub goes_stand : (size : ℕ) (told later : Told) (m : Machine) (t t2 : Transaction) → TablesStand size told old m → TellsOn told later
-      → get m.transactions c ≡ Some t
-      → LogStands size old.kv later y t2.ops → t2.base ≡ t.base → t2.tree ≡ t.tree → t2.touched ≡ t.touched → t2.shown ≡ y.log.shown → t2.replayed ≡ y.replayed
-      → TablesStand size later new (with_transaction m c t2)
+      → get m.transactions c ≡ Some t → LogStands size old.kv later y t2.ops → t2.base ≡ t.base → t2.tree ≡ t.tree → t2.touched ≡ t.touched
+      → t2.shown ≡ y.log.shown → t2.replayed ≡ y.replayed → TablesStand size later new (with_transaction m c t2)
   goes_stand size told later m t t2 st on there run base2 tree2 touched2 shown2 replayed2 =
       let txn = txn_in size told old m c x t st here there in
       let tree : Stands size told y.tx 0 (metadata_at old.kv y.at.base) t2.tree =
@@ -223,12 +168,8 @@ module _ (old new : TablesView) (c : ℕ) (x : TxnView) (b n : ℕ) (sound : Are
   abbrev again : TxnView
   again = turn.later
 
-  -- it has its number, and the store's as its base
-  retry_tx : again.tx ≡ x.tx
-  retry_tx = ap (λ (v : TxnView). v.tx) turn.retried.is
-
-  retry_base : again.at.base ≡ n
-  retry_base = ap (λ (v : TxnView). v.at.base) turn.retried.is
+  based : again.at.base ≡ n
+  based = retry_base old new c x b n sound here turn
 
   -- the map now stays
   retry_now : metadata_now new.kv ≡ metadata_now old.kv
@@ -236,27 +177,26 @@ module _ (old new : TablesView) (c : ℕ) (x : TxnView) (b n : ℕ) (sound : Are
 
   -- and is what its new base shows
   retry_map : metadata_at new.kv again.at.base ≡ metadata_now old.kv
-  retry_map = ap (λ k. metadata_at new.kv k) (retry_base ∙ turn.retried.number_is) ∙ turn.maps old.kv.number (omega arith)
+  retry_map = ap (λ k. metadata_at new.kv k) (based ∙ turn.retried.number_is) ∙ turn.maps old.kv.number (omega arith)
 
   -- nothing was touched since
   retry_since : (none : (i : InodeId) → i.tx.0 ≡ x.tx → metadata_now old.kv (Inode i) ≡ None) → SinceBase new.kv again.tx again.at.base []
   retry_since none =
-      subst (λ k. SinceBase new.kv again.tx k []) (sym (retry_base ∙ turn.retried.number_is ∙ sym turn.retried.number))
-      (since_none new.kv again.tx (λ i mine. ap (λ w. w (Inode i)) retry_now ∙ none i (mine ∙ retry_tx)))
+      subst (λ k. SinceBase new.kv again.tx k []) (sym (based ∙ turn.retried.number_is ∙ sym turn.retried.number))
+      (since_none new.kv again.tx (λ i mine. ap (λ w. w (Inode i)) retry_now ∙ none i (mine ∙ (retry_tx old new c x b n sound here turn))))
 
   -- others have touched what the calls read, and the machine's transaction begins again on the tree now
-  retry_stand : (size : ℕ) (told later : Told) (m : Machine) (t : Transaction) → m.settings.region ≡ size → TablesStand size told old m
-      → TellsOn told later → get m.transactions c ≡ Some t
-      → try_refusal x ≡ None → MayTry m t (answer.Retry b n) × TablesStand size later new (tried m c t (answer.Retry b n))
+  retry_stand : (size : ℕ) (told later : Told) (m : Machine) (t : Transaction) → m.settings.region ≡ size → TablesStand size told old m → TellsOn told later
+      → get m.transactions c ≡ Some t → try_refusal x ≡ None → MayTry m t (Answer.Retry b n) × TablesStand size later new (tried m c t (Answer.Retry b n))
   retry_stand size told later m t region st on there asked =
       let txn = txn_in size told old m c x t st here there in
       let t2 : Transaction = machine_rebased m t in
       let now : Stands size later again.tx 0 (metadata_now old.kv) m.now =
       Stands-later told later on size again.tx 0 (metadata_now old.kv) m.now
-      (subst (λ k. Stands size told k 0 (metadata_now old.kv) m.now) (sym retry_tx) txn.now) in
+      (subst (λ k. Stands size told k 0 (metadata_now old.kv) m.now) (sym (retry_tx old new c x b n sound here turn)) txn.now) in
       let stands : StandsForTxn size later new.kv m.now again t2 = record {
         sound = sound_later size new.kv told later again t.ops on (turn.sound size told t.ops txn.sound);
-        base = st.number ∙ sym turn.retried.number_is ∙ sym retry_base;
+        base = st.number ∙ sym turn.retried.number_is ∙ sym based;
         shown = txn.shown ∙ ap (λ (v : TxnView). v.log.shown) (sym turn.retried.is);
         replayed = ap (λ (v : TxnView). v.replayed) (sym turn.retried.is);
         tree = subst (λ w. Stands size later again.tx 0 w m.now) (sym retry_map) now;
@@ -278,19 +218,14 @@ module _ (old new : TablesView) (c : ℕ) (x : TxnView) (b n : ℕ) (sound : Are
       )
 
 -- ---- an attempt
--- a commit raises the number
-commit_up : (old new : TablesView) (c : ℕ) (x : TxnView) (n : ℕ) (turn : Commits old new c x n) → old.kv.number ≤ turn.mid.number
-commit_up old new c x n turn = let number = turn.committed.installed.number in let next = turn.committed.installed.next in omega (arith, number, next)
-
 -- the machine may answer so, and the tables stand for what it then is
-pub tries_stand : (size : ℕ) (told later : Told) (old new : TablesView) (m : Machine) (c : ℕ) (x : TxnView) (t : Transaction) (a : Answer)
-    → AreSound old → m.settings.region ≡ size → IsSmall m → TablesStand size told old m → TellsOn told later
-    → of_client old.clients c ≡ Some x → get m.transactions c ≡ Some t → try_refusal x ≡ None
-    → Tries old new c x a → MayTry m t a × TablesStand size later new (tried m c t a)
-tries_stand size told later old new m c x t (answer.Committed n) sound region small st on here there asked turn =
+pub tries_stand : (size : ℕ) (told later : Told) (old new : TablesView) (m : Machine) (c : ℕ) (x : TxnView) (t : Transaction) (a : Answer) → AreSound old
+    → m.settings.region ≡ size → IsSmall m → TablesStand size told old m → TellsOn told later → of_client old.clients c ≡ Some x → get m.transactions c ≡ Some t
+    → try_refusal x ≡ None → Tries old new c x a → MayTry m t a × TablesStand size later new (tried m c t a)
+tries_stand size told later old new m c x t (Answer.Committed n) sound region small st on here there asked turn =
     installs_stand old new turn.mid c x sound here (commit_up old new c x n turn) turn.ends size told later m t n small st on region there
     (turn.final size later t.ops (sound_later size old.kv told later x t.ops on (txn_in size told old m c x t st here there).sound))
-tries_stand size told later old new m c x t (answer.Retry b n) sound region small st on here there asked turn = retry_stand old new c x b n sound here turn size
+tries_stand size told later old new m c x t (Answer.Retry b n) sound region small st on here there asked turn = retry_stand old new c x b n sound here turn size
     told later m t region st on there asked
 tries_stand size told later old new m c x t a sound region small st on here there asked turn = absurd turn
 
@@ -316,8 +251,7 @@ module _ (z : Seeing) (old new : TablesView) (c : ℕ) (x : TxnView) (i : ℕ)
 
   -- on the tree at the base the next call answers what was shown
   replay_may : (m : Machine) (t : Transaction) → m.settings.region ≡ z.size → StandsForTxn z.size z.told old.kv m.now x t → TellsOn z.told z.later
-      → LogStands z.size old.kv z.later onward t.ops
-      → MayStep m t (answer.Replayed i)
+      → LogStands z.size old.kv z.later onward t.ops → MayStep m t (Answer.Replayed i)
   replay_may m t region txn on run =
       let tree : Stands z.size z.told onward.tx 0 (metadata_at old.kv onward.at.base) t.tree =
       subst (λ k. Stands z.size z.told k 0 (metadata_at old.kv onward.at.base) t.tree) (sym replay_tx)
@@ -340,14 +274,13 @@ module _ (z : Seeing) (old new : TablesView) (c : ℕ) (x : TxnView) (i : ℕ)
   replay_stand : (m : Machine) (t : Transaction) → m.settings.region ≡ z.size → TablesStand z.size z.told old m
       → TellsOn z.told z.later → get m.transactions c ≡ Some
       t → z.telling × AreTrue z.size z.told z.lists old
-      → MayStep m t (answer.Replayed i) × TablesStand z.size z.later new (stepped m c t (answer.Replayed i))
+      → MayStep m t (Answer.Replayed i) × TablesStand z.size z.later new (stepped m c t (Answer.Replayed i))
   replay_stand m t region st on there telling =
       let txn = txn_in z.size z.told old m c x t st here there in
       let run : LogStands z.size old.kv z.later onward t.ops = turn.sound (telling.0, telling.1, txn.tree.bytes) t.ops txn.sound in (
         replay_may m t region txn on run,
         goes_stand old new c x onward sound here turn.keeps replay_tx turn.replayed.base replay_going turn.fit z.size z.told z.later m t
-            (record t { replayed = i }) st on there run
-            refl refl refl (txn.shown ∙ sym replay_shown) (sym replay_count),
+            (record t { replayed = i }) st on there run refl refl refl (txn.shown ∙ sym replay_shown) (sym replay_count),
       )
 
 -- a call that deviates at the base ends the transaction
@@ -381,12 +314,11 @@ step_fault_may z old new c x a m t turn region count txn =
     )
 
 -- the machine may answer so, and the tables stand for what it then is
-pub steps_stand : (z : Seeing) (old new : TablesView) (m : Machine) (c : ℕ) (x : TxnView)
-    (t : Transaction) (a : Answer)
-    → AreSound old → m.settings.region ≡ z.size → m.settings.servers ≡ z.servers → TablesStand z.size z.told old m → TellsOn z.told z.later
-    → of_client old.clients c ≡ Some x → get m.transactions c ≡ Some t → step_refusal x ≡ None → z.telling × AreTrue z.size z.told z.lists old
-    → StepTurn z old new c x a → MayStep m t a × TablesStand z.size z.later new (stepped m c t a)
-steps_stand z old new m c x t (answer.Replayed i) sound region count st on here there asked telling turn = replay_stand
+pub steps_stand : (z : Seeing) (old new : TablesView) (m : Machine) (c : ℕ) (x : TxnView) (t : Transaction) (a : Answer) → AreSound old
+    → m.settings.region ≡ z.size → m.settings.servers ≡ z.servers → TablesStand z.size z.told old m → TellsOn z.told z.later → of_client old.clients c ≡ Some x
+    → get m.transactions c ≡ Some t → step_refusal x ≡ None → z.telling × AreTrue z.size z.told z.lists old → StepTurn z old new c x a
+    → MayStep m t a × TablesStand z.size z.later new (stepped m c t a)
+steps_stand z old new m c x t (Answer.Replayed i) sound region count st on here there asked telling turn = replay_stand
     z old new c x i sound here turn m t region st on there telling
 steps_stand z old new m c x t (Aborted' i box a) sound region count st on here there asked telling turn = (
   abort_may z old new c x i a m t turn region (txn_in z.size z.told old m c x t st here there) telling,
@@ -400,13 +332,11 @@ steps_stand z old new m c x t a sound region count st on here there asked tellin
 
 -- ---- a commit
 -- a commit by replay raises the number
-finish_up : (z : Seeing) (old new : TablesView) (c : ℕ) (x : TxnView) (n : ℕ)
-    (turn : Finishes z old new c x n) → old.kv.number ≤ turn.mid.number
+finish_up : (z : Seeing) (old new : TablesView) (c : ℕ) (x : TxnView) (n : ℕ) (turn : Finishes z old new c x n) → old.kv.number ≤ turn.mid.number
 finish_up z old new c x n turn = let number = turn.number in let next = turn.next in omega (arith, number, next)
 
 -- a replay that is given up leaves the number
-give_up : (z : Seeing) (old new : TablesView) (c : ℕ) (x : TxnView) (i : ℕ) (a : Answer)
-    (turn : GivesUp z old new c x i a) → old.kv.number ≤ turn.mid.number
+give_up : (z : Seeing) (old new : TablesView) (c : ℕ) (x : TxnView) (i : ℕ) (a : Answer) (turn : GivesUp z old new c x i a) → old.kv.number ≤ turn.mid.number
 give_up z old new c x i a turn = let number = turn.number in omega (arith, number)
 
 -- calls that deviate on the map now do so on the tree now
@@ -421,14 +351,12 @@ give_up_may z old new c x i a m t turn region txn telling =
     (turn.deviates (telling.0, telling.1, txn.tree.bytes) (telling.0, telling.1, txn.now.bytes) t.ops txn.sound m.now txn.now))
 
 -- the machine may answer so, and the tables stand for what it then is
-pub finals_stand : (z : Seeing) (old new : TablesView) (m : Machine) (c : ℕ) (x : TxnView)
-    (t : Transaction) (a : Answer)
-    → AreSound old → m.settings.region ≡ z.size → m.settings.servers ≡ z.servers → IsSmall m → TablesStand z.size z.told old m → TellsOn z.told z.later
-    → of_client old.clients c ≡ Some x → get m.transactions c ≡ Some t → z.telling × AreTrue z.size z.told z.lists old
-    → Finals z old new c x a → MayCommit m t a × TablesStand z.size z.later new (committed m c t a)
-finals_stand z old new m c x t (answer.Committed n) sound region count small st on here there telling turn = installs_stand old new turn.mid c x sound here
-    (finish_up z old new c x n turn) turn.ends z.size z.told z.later m t n small st on
-    region there
+pub finals_stand : (z : Seeing) (old new : TablesView) (m : Machine) (c : ℕ) (x : TxnView) (t : Transaction) (a : Answer) → AreSound old
+    → m.settings.region ≡ z.size → m.settings.servers ≡ z.servers → IsSmall m → TablesStand z.size z.told old m → TellsOn z.told z.later
+    → of_client old.clients c ≡ Some x → get m.transactions c ≡ Some t → z.telling × AreTrue z.size z.told z.lists old → Finals z old new c x a
+    → MayCommit m t a × TablesStand z.size z.later new (committed m c t a)
+finals_stand z old new m c x t (Answer.Committed n) sound region count small st on here there telling turn = installs_stand old new turn.mid c x sound here
+    (finish_up z old new c x n turn) turn.ends z.size z.told z.later m t n small st on region there
     (turn.final (telling.0, telling.1, (txn_in z.size z.told old m c x t st here there).tree.bytes)
     (telling.0, telling.1, (txn_in z.size z.told old m c x t st here there).now.bytes) t.ops (txn_in z.size z.told old m c x t st here there).sound)
 finals_stand z old new m c x t (Aborted' i box a) sound region count small st on here there telling turn = (

@@ -1,47 +1,17 @@
 -- What lines make of a core that are lent nothing of it, and what a save does.
-use Rattle.std.proofs.Common.{◌≡◌, ◌≤◌, ℕ, nat_lt, Bool, true, false, List, [], length, Result, Ok, IfOk, OnErr, refl, sym, ap, subst}
-use Rattle.std.proofs.lemmas.Bool.{true≢false}
-use Rattle.std.specs.Bool.{MatchBool}
-use Rattle.wtf_dev.specs.Each.{EachFollows}
-use Rattle.wtf_dev.specs.Store.{StoreKind, KindLaws}
-use Rattle.wtf_dev.proofs.Each.{each_same}
-use Rattle.wtf_replica.specs.Downs.{is_down}
-use Rattle.wtf_region.specs.Cached.{Remembered}
-use Rattle.wtf_replica.specs.Outs.{SameSyncs}
-use Rattle.wtf_replica.specs.Spans.{Span, span}
-use Rattle.wtf_model.specs.declared.answer.Answer.{Answer}
-use Rattle.wtf_model.specs.declared.answer.Answer.TheVariants as answer
-use Rattle.wtf_model.specs.declared.answer.Word.TheVariants.{NoServer}
-use Rattle.wtf_model.specs.declared.event.Event.{Event}
-use Rattle.wtf_model.specs.declared.event.Event.TheVariants as event
-use Rattle.wtf_clients.specs.Asked.{lending}
-use Rattle.wtf_clients.specs.Leaving.{LeavesAlone}
-use Rattle.wtf_clients.specs.Named.{TablesBytes}
-use Rattle.wtf_clients.specs.Outcomes.{no_load, load_of}
-use Rattle.wtf_clients.specs.Saves.{AreUp, SaveTurn}
-use Rattle.wtf_clients.specs.Serves.{IsPlain, ServesLine}
-use Rattle.wtf_clients.specs.Sounds.{AreSound}
-use Rattle.wtf_clients.specs.Views.{TablesView}
-use Rattle.wtf_clients.proofs.Leaving.{leaves_none}
-use Rattle.wtf_core.specs.Ended.{LineEnds}
-use Rattle.wtf_core.specs.Named.{IsInside}
-use Rattle.wtf_core.specs.Telling.{ServesTurn}
-use Rattle.wtf_core.specs.Turns.{Switches, ServerTurn, ShowsTree, IsTreeAnswer, LineTurn}
-use Rattle.wtf_core.specs.Views.{CoreView, lent_of}
-use Rattle.wtf_core.proofs.Answering.{tree_plain, server_plain, still_serves}
-use Rattle.wtf_core.proofs.Lent.{if_both, if_some, on_any, on_both, same_alike}
-use Rattle.wtf_core.proofs.Punching.{IsUncollecting, none_keeps}
-use Rattle.wtf_core.proofs.Remembering.{still_keeps, save_keeps, server_keeps}
-use Rattle.wtf_core.proofs.Telling.{save_told}
+use Rattle.wtf_core.proofs.Common.{true≢false, MatchBool, EachFollows, StoreKind, KindLaws, each_same, is_down, Remembered, SameSyncs, Span, span, Answer}
+use Rattle.wtf_core.proofs.Common.{NoServer, Event, lending, LeavesAlone, TablesBytes, no_load, load_of, AreUp, SaveTurn, IsPlain, ServesLine, AreSound}
+use Rattle.wtf_core.proofs.Common.{TablesView, leaves_none, LineEnds, IsInside, ServesTurn, Switches, ServerTurn, ShowsTree, IsTreeAnswer, LineTurn, CoreView}
+use Rattle.wtf_core.proofs.Common.{lent_of, ◌≡◌, ◌≤◌, ℕ, nat_lt, Bool, true, false, List, [], length, Result, Ok, IfOk, OnErr, refl, sym, ap, subst}
+use Rattle.wtf_core.proofs.{Answering.tree_plain, Answering.server_plain, Answering.still_serves, Lent.if_both, Lent.if_some, Lent.on_any, Lent.on_both}
+use Rattle.wtf_core.proofs.{Lent.same_alike, Punching.IsUncollecting, Punching.none_keeps, Remembering.still_keeps, Remembering.save_keeps}
+use Rattle.wtf_core.proofs.{Remembering.server_keeps, Telling.save_told}
 
 -- ---- a server goes down, or comes up
-server_rest : (old new : CoreView) (k : ℕ) (to there : Bool) (a : Answer)
-    → MatchBool there (Switches old new k to a) ((a ≡ answer.Refused NoServer) × (new ≡ old))
-    → (new.settings ≡ old.settings) × (new.closed ≡ old.closed) × (new.lists ≡ old.lists)
-server_rest old new k to true a h =
-    (ap (λ (c : CoreView). c.settings) h.rest, ap (λ (c : CoreView). c.closed) h.rest, ap (λ (c : CoreView). c.lists) h.rest)
-server_rest old new k to false a h =
-    (ap (λ (c : CoreView). c.settings) h.1, ap (λ (c : CoreView). c.closed) h.1, ap (λ (c : CoreView). c.lists) h.1)
+server_rest : (old new : CoreView) (k : ℕ) (to there : Bool) (a : Answer) → MatchBool there (Switches old new k to a)
+    ((a ≡ Answer.Refused NoServer) × (new ≡ old)) → (new.settings ≡ old.settings) × (new.closed ≡ old.closed) × (new.lists ≡ old.lists)
+server_rest old new k to true a h = (ap (λ (c : CoreView). c.settings) h.rest, ap (λ (c : CoreView). c.closed) h.rest, ap (λ (c : CoreView). c.lists) h.rest)
+server_rest old new k to false a h = (ap (λ (c : CoreView). c.settings) h.1, ap (λ (c : CoreView). c.closed) h.1, ap (λ (c : CoreView). c.lists) h.1)
 
 -- one that is lent no store, and leaves the lists, leaves all alone
 pub left_alone : {S : Type 0} (kind : StoreKind S) (shelf : List S) (old new : CoreView) (e : Event) → new.lists ≡ old.lists
@@ -81,12 +51,11 @@ module _ {S : Type 0} {kind : StoreKind S} (laws : KindLaws kind) (shelf : List 
       })
 
   pub down_ends : {E : Type 0} (k : ℕ) (a : Answer) (r : Result Answer E) → r ≡ Ok a → ServerTurn old new k true a
-      → LineEnds kind still old new (event.Down k) r
-  down_ends k a r is h = server_ends (event.Down k) k true a r is h tt tt h
+      → LineEnds kind still old new (Event.Down k) r
+  down_ends k a r is h = server_ends (Event.Down k) k true a r is h tt tt h
 
-  pub up_ends : {E : Type 0} (k : ℕ) (a : Answer) (r : Result Answer E) → r ≡ Ok a → ServerTurn old new k false a
-      → LineEnds kind still old new (event.Up k) r
-  up_ends k a r is h = server_ends (event.Up k) k false a r is h tt tt h
+  pub up_ends : {E : Type 0} (k : ℕ) (a : Answer) (r : Result Answer E) → r ≡ Ok a → ServerTurn old new k false a → LineEnds kind still old new (Event.Up k) r
+  up_ends k a r is h = server_ends (Event.Up k) k false a r is h tt tt h
 
   pub server_serves : (e : Event) (k : ℕ) (to : Bool) (a : Answer) → load_of e ≡ no_load → ServerTurn old new k to a
       → ServesLine kind still (lent_of old new) old.tables new.tables e a
@@ -101,25 +70,25 @@ module _ {S : Type 0} {kind : StoreKind S} (laws : KindLaws kind) (shelf : List 
   here = span (is_down core.replicas) shelf shelf
 
   pub tree_ends : {E : Type 0} (r : Result Answer E) → IfOk r (ShowsTree core.settings.region core.tables.kv) → IfOk r IsTreeAnswer
-      → LineEnds kind here core core event.Tree r
+      → LineEnds kind here core core Event.Tree r
   tree_ends r shows tree = record {
     made = if_both r shows tree (λ a s t.
-        let turn : LineTurn kind here core core event.Tree a = (s, refl, t) in
+        let turn : LineTurn kind here core core Event.Tree a = (s, refl, t) in
         record {
           turn = turn;
           told = tt;
-          punched = none_keeps kind here core core sound event.Tree a turn tt (each_same laws shelf) (still_keeps kind shelf core core inside refl);
+          punched = none_keeps kind here core core sound Event.Tree a turn tt (each_same laws shelf) (still_keeps kind shelf core core inside refl);
         });
     lost = on_any r (record { left = same_alike core.tables core.tables refl; follows = each_same laws shelf; unsynced = λ k d there. refl });
     settings = refl;
     closed = refl;
-    leaves = left_alone kind shelf core core event.Tree refl;
+    leaves = left_alone kind shelf core core Event.Tree refl;
     sure = λ never. absurd (true≢false (sym never));
   }
 
   pub tree_serves : {E : Type 0} (r : Result Answer E) → IfOk r IsTreeAnswer
-      → IfOk r (ServesLine kind here (lent_of core core) core.tables core.tables event.Tree)
-  tree_serves r tree = if_some r tree (λ a t. same_names kind shelf core core event.Tree a inside refl refl (tree_plain a t))
+      → IfOk r (ServesLine kind here (lent_of core core) core.tables core.tables Event.Tree)
+  tree_serves r tree = if_some r tree (λ a t. same_names kind shelf core core Event.Tree a inside refl refl (tree_plain a t))
 
 -- ---- a save
 module _ {S : Type 0} {kind : StoreKind S} (laws : KindLaws kind) (before after : List S) (old : CoreView) (new : TablesView) (sound : AreSound old.tables)
@@ -130,18 +99,16 @@ module _ {S : Type 0} {kind : StoreKind S} (laws : KindLaws kind) (before after 
   abbrev through : Span S
   through = span (is_down old.replicas) before after
 
-  pub save_ends : {E : Type 0} (r : Result Answer E) → IfOk r (SaveTurn (AreUp old.replicas old.settings.servers) old.tables new)
-      → OnErr r (new ≡ old.tables) → OnErr r (after ≡ before) → LeavesAlone kind through (lent_of old saved) old.tables event.Save
-      → LineEnds kind through old saved event.Save r
+  pub save_ends : {E : Type 0} (r : Result Answer E) → IfOk r (SaveTurn (AreUp old.replicas old.settings.servers) old.tables new) → OnErr r (new ≡ old.tables)
+      → OnErr r (after ≡ before) → LeavesAlone kind through (lent_of old saved) old.tables Event.Save → LineEnds kind through old saved Event.Save r
   save_ends r turn same unsynced leaves = record {
     made = if_some r turn (λ a h.
-        let whole : LineTurn kind through old saved event.Save a = (h, refl) in
+        let whole : LineTurn kind through old saved Event.Save a = (h, refl) in
         record {
           turn = whole;
           told = save_told laws (is_down old.replicas) before after follows old.settings enough old.lists
-              (AreUp old.replicas old.settings.servers) old.tables new
-              a sound h;
-          punched = none_keeps kind through old saved sound event.Save a whole tt follows
+              (AreUp old.replicas old.settings.servers) old.tables new a sound h;
+          punched = none_keeps kind through old saved sound Event.Save a whole tt follows
               (save_keeps laws before after follows old saved enough inside refl);
         });
     lost = on_both r same unsynced (λ is stay. record {

@@ -1,34 +1,11 @@
 -- What the stores of the settings' servers tell by themselves: where all that a core names lies inside them, what is kept for it stands over them.
-use Rattle.std.proofs.Common.{◌≡◌, ◌<◌, ◌&&◌, ℕ, zero, suc, nat_lt, false, List, [], ◌∷◌, take, Option, refl, ap, ◌∙◌, arith}
-use Rattle.std.specs.Prelude.{⊤, slice_get}
-use Rattle.std.proofs.lemmas.Bool.{and_parts, ltb-true}
-use Rattle.std.proofs.lemmas.List.{length-take}
-use Rattle.wtf_base.specs.declared.settings.Settings.{Settings}
-use Rattle.wtf_dev.specs.Each.{EachFollows}
-use Rattle.wtf_dev.specs.Keep.{KeeperView}
-use Rattle.wtf_dev.specs.Store.{StoreKind, KindLaws}
+use Rattle.wtf_core.proofs.Common.{⊤, slice_get, and_parts, ltb-true, length-take, Settings, EachFollows, KeeperView, StoreKind, KindLaws, told_by, byte_at}
+use Rattle.wtf_core.proofs.Common.{span, byte_at-within, Machine, Tree, metadata_at, TellsOn, is_place_inside, tells_on, HoldsKept, TellsWhere, AreSound}
+use Rattle.wtf_core.proofs.Common.{kept_pinned, pinned_live, stands_where, HoldsTree, StandsFor, IsWithin, KeepsImages, stores_of, CoreView, ◌≡◌, ◌<◌, ◌&&◌, ℕ}
+use Rattle.wtf_core.proofs.Common.{zero, suc, nat_lt, false, List, [], ◌∷◌, take, Option, refl, ap, ◌∙◌, arith}
 use Rattle.wtf_overlay.specs.Origin.{Place}
-use Rattle.wtf_replica.specs.Bytes.{told_by, byte_at}
-use Rattle.wtf_replica.specs.Spans.{span}
-use Rattle.wtf_replica.proofs.Bytes.{byte_at-within}
-use Rattle.wtf_model.specs.Machines.{Machine}
-use Rattle.wtf_model.specs.Tree.{Tree}
-use Rattle.wtf_meta.specs.Maps.{metadata_at}
-use Rattle.wtf_meta.proofs.Telling.{TellsOn}
-use Rattle.wtf_region.specs.Inside.{size_in, is_place_inside}
-use Rattle.wtf_replay.proofs.Later.{tells_on}
-use Rattle.wtf_clients.specs.Keeping.{HoldsKept}
-use Rattle.wtf_clients.specs.Off.{TellsWhere}
-use Rattle.wtf_clients.specs.Sounds.{AreSound}
-use Rattle.wtf_clients.proofs.Images.{kept_pinned}
-use Rattle.wtf_clients.proofs.Lives.{pinned_live}
-use Rattle.wtf_clients.proofs.OffStanding.{stands_where}
-use Rattle.wtf_core.specs.Pictured.{HoldsTree}
-use Rattle.wtf_core.specs.Standing.{StandsFor}
-use Rattle.wtf_core.specs.Telling.{IsWithin, KeepsImages, stores_of}
-use Rattle.wtf_core.specs.Views.{CoreView}
-use Rattle.wtf_core.proofs.Picturing.{kept_tree}
-use Rattle.wtf_core.proofs.Telling.{first_on}
+use Rattle.wtf_region.specs.Inside.{size_in}
+use Rattle.wtf_core.proofs.{Picturing.kept_tree, Telling.first_on}
 
 -- a store of the first n is there, at its index
 first_store : {S : Type 0} (n : ℕ) (xs : List S) (k : ℕ) → k < n → slice_get (take n xs) k ≡ slice_get xs k
@@ -71,5 +48,4 @@ module _ {S : Type 0} (kind : StoreKind S) (shelf : List S) (core : CoreView) (s
       kept_tree kind (span (λ k. false) shelf (stores_of core.settings shelf)) core core m sound st.tables images_within
       (record { maps = λ n live. refl; more = omega arith; saved = (refl, refl) })
       (record { before = v; after = v; handed = λ images. ⊥; refused = ⊤; untouched = ⊤ })
-      (record { kept = λ images never. absurd never; same = λ untouched. refl })
-      may may (λ t there. there) tt kept held
+      (record { kept = λ images never. absurd never; same = λ untouched. refl }) may may (λ t there. there) tt kept held

@@ -1,45 +1,19 @@
 -- A collection of a quiet ending: of what lies below the marks of the first of the last two scans it leaves just what is named.
-use Rattle.std.proofs.Common.{◌≡◌, ◌⊎◌, ◌<◌, ℕ, Bool, true, false, not, ◌||◌, ◌&&◌, cond, nat_eq, nat_lt, List, length}
-use Rattle.std.proofs.Common.{None, refl, sym, ◌∙◌, ap, subst, inl, inr, ⊎_elim, true≢false, arith}
-use Rattle.std.proofs.lemmas.Bool.{and_from, or_left, or_right, eq-eqb, lt-ltb}
-use Rattle.wtf_base.specs.Places.{Place}
-use Rattle.wtf_dev.specs.Store.{Range, StoreKind}
-use Rattle.wtf_replica.specs.Bytes.{byte_at}
-use Rattle.wtf_replica.specs.Inside.{size_in}
-use Rattle.wtf_replica.specs.Outs.{SameLengths}
-use Rattle.wtf_replica.specs.Spans.{Span}
-use Rattle.wtf_kv.specs.Stores.{Store}
-use Rattle.wtf_values.specs.declared.key.Key.{Key}
-use Rattle.wtf_values.specs.declared.value.Value.{Value}
-use Rattle.wtf_model.specs.declared.answer.Answer.{Answer}
-use Rattle.wtf_model.specs.declared.event.Event.TheVariants as event
-use Rattle.wtf_meta.specs.Contents.{Told}
-use Rattle.wtf_meta.specs.Maps.{Map, metadata_at}
-use Rattle.wtf_gc.specs.Extents.{extents_cover}
-use Rattle.wtf_gc.specs.Frees.{AreGarbage, CountsFreed, lie_in}
-use Rattle.wtf_gc.specs.Views.{ScanView, GcView, mark_of, is_garbage, length_in}
-use Rattle.wtf_clients.specs.Safe.{NamesNone}
-use Rattle.wtf_clients.specs.ScanTurns.{KeepsStore}
-use Rattle.wtf_clients.specs.Sounds.{AreSound}
-use Rattle.wtf_clients.specs.Views.{BesideView, metadata_now}
-use Rattle.wtf_clients.proofs.KeptNames.{rests_alone}
-use Rattle.wtf_core.specs.Quiet.{MapNames, IsAtRest, ScannedTwice, IsKeptByte, IsAtStage, FoundOnlyKept, LeavesKept, HasCollected}
-use Rattle.wtf_core.specs.Views.{CoreView}
-use Rattle.wtf_core.proofs.Carried.{AllSameBases, ReadsSame, reads_same, size_same, length_same, names_later, names_before}
+use Rattle.wtf_core.proofs.Common.{and_from, or_left, or_right, eq-eqb, lt-ltb, Place, Range, StoreKind, byte_at, size_in, Span, Store, Key, Value, Answer}
+use Rattle.wtf_core.proofs.Common.{Event, Told, Map, metadata_at, extents_cover, AreGarbage, CountsFreed, lie_in, ScanView, GcView, mark_of, is_garbage}
+use Rattle.wtf_core.proofs.Common.{length_in, NamesNone, KeepsStore, AreSound, metadata_now, rests_alone, MapNames, IsAtRest, ScannedTwice, IsKeptByte}
+use Rattle.wtf_core.proofs.Common.{IsAtStage, FoundOnlyKept, LeavesKept, HasCollected, CoreView, ◌≡◌, ◌⊎◌, ◌<◌, ℕ, Bool, true, false, not, ◌||◌, ◌&&◌, cond}
+use Rattle.wtf_core.proofs.Common.{nat_eq, nat_lt, List, None, refl, sym, ◌∙◌, ap, subst, inl, inr, ⊎_elim, true≢false, arith, with_gc}
+use Rattle.wtf_core.proofs.Carried.{ReadsSame, reads_same, size_same, names_later, names_before}
 use Rattle.wtf_core.proofs.Unnamed.{map_none}
-use Rattle.wtf_core.proofs.Moving.{some_is, none_some, SameRest, Moves, Leaves, rest_later, steady}
+use Rattle.wtf_core.proofs.Moving.{some_is, none_some, InPlace, SameRest, rest_of, long_on, Moves, Leaves, rest_later, steady}
 
-module _ {S : Type 0} (kind : StoreKind S) (t : Span S) (old new : CoreView) (settings : new.settings ≡ old.settings)
-    (many : length t.after ≡ length t.before) (lengths : SameLengths kind t.before t.after)
-    (same : AllSameBases old.settings.region (byte_at kind t.before) (byte_at kind t.after) old.tables.kv) where
+module _ {S : Type 0} (kind : StoreKind S) (t : Span S) (old new : CoreView) (place : InPlace kind t old new) where
   abbrev told : Told
   told = byte_at kind t.before
 
   abbrev later : Told
   later = byte_at kind t.after
-
-  long_on : (k f : ℕ) → length_in kind t.after k f ≡ length_in kind t.before k f
-  long_on = length_same kind t.before t.after many lengths
 
   -- ---- garbage is freed, or some of it
   module _ (keeps : KeepsStore old.tables new.tables) {counted : List (ℕ × Range)}
@@ -48,29 +22,23 @@ module _ {S : Type 0} (kind : StoreKind S) (t : Span S) (old new : CoreView) (se
     gc = old.tables.beside.gc
 
     free_rest : SameRest old.tables new.tables
-    free_rest = record {
-      clients = keeps.keeps.clients;
-      jobs = ap (λ (b : BesideView). b.jobs) keeps.keeps.beside;
-      images = ap (λ (b : BesideView). b.images) keeps.keeps.beside;
-      none = ap (λ (b : BesideView). b.none) keeps.keeps.beside;
-      watched = ap (λ (b : BesideView). b.watched) keeps.keeps.beside;
-      number = ap (λ (s : Store Key Value). s.number) keeps.kv;
-    }
+    free_rest = rest_of old.tables new.tables (with_gc old.tables.beside new.tables.beside.gc) keeps.keeps.clients keeps.keeps.beside
+        (ap (λ (s : Store Key Value). s.number) keeps.kv)
 
     free_same : ReadsSame old.tables.kv new.tables.kv
     free_same = reads_same old.tables.kv new.tables.kv (ap (λ (s : Store Key Value). s.number) keeps.kv) (ap (λ (s : Store Key Value). s.pins) keeps.kv)
         (λ n live. ap (λ (s : Store Key Value). metadata_at s n) keeps.kv)
 
-    pub frees_move : (k : ℕ) (a : Answer) → Moves kind t old new (event.Collect k) a
-    frees_move k a = steady kind t old new settings many lengths same (event.Collect k) a (λ s next is. some_is s next is) free_same free_rest
+    pub frees_move : (k : ℕ) (a : Answer) → Moves kind t old new (Event.Collect k) a
+    frees_move k a = steady kind t old new place (Event.Collect k) a (λ s next is. some_is s next is) free_same free_rest
         (record { running = scans.running; older = scans.older; newer = scans.newer })
         (λ p here. scans.freed p ∙ or_left (extents_cover gc.freed p) (lie_in counted p) here)
 
     kept_later : (p : Place) → IsKeptByte kind t.before old p → IsKeptByte kind t.after new p
-    kept_later = names_later kind t.before t.after old new settings long_on free_same same
+    kept_later = names_later kind t.before t.after old new place.settings (long_on kind t old new place) free_same place.same
 
     kept_before : (p : Place) → IsKeptByte kind t.after new p → IsKeptByte kind t.before old p
-    kept_before = names_before kind t.before t.after old new settings long_on free_same same
+    kept_before = names_before kind t.before t.after old new place.settings (long_on kind t old new place) free_same place.same
 
     -- all of it is
     module _ (sound : AreSound old.tables) (k : ℕ) (ranges : List (ℕ × Range)) (are : AreGarbage gc k ranges)
@@ -99,8 +67,7 @@ module _ {S : Type 0} (kind : StoreKind S) (t : Span S) (old new : CoreView) (se
           → (extents_cover new.tables.beside.gc.freed p ≡ true) ⊎ IsKeptByte kind t.before old p
       left_of found p on below =
           left_by found p on (lt-ltb p.at (mark_of gc.older p.server p.file) below) (extents_cover gc.older.found p) (extents_cover gc.newer.found p)
-          (extents_cover gc.freed p)
-          refl refl refl
+          (extents_cover gc.freed p) refl refl refl
 
       -- no byte that is named was freed, and none is garbage
       kept_stays : (p : Place) → IsKeptByte kind t.before old p → extents_cover new.tables.beside.gc.freed p ≡ false
@@ -139,7 +106,7 @@ module _ {S : Type 0} (kind : StoreKind S) (t : Span S) (old new : CoreView) (se
             let mark : mark_of gc.older p.server p.file ≡ size_in kind t.after k p.file =
             at.scans.1.marks p.server p.file ∙ ap (λ (j : ℕ). length_in kind t.before j p.file) on
             ∙ ap (λ (b : Bool). cond b (size_in kind t.before k p.file) 0) (lt-ltb p.file 8 file)
-            ∙ sym (size_same kind t.before t.after many lengths k p.file) in
+            ∙ sym (size_same kind t.before t.after place.many place.lengths k p.file) in
             ⊎_elim
             (λ freed. inl freed)
             (λ h. inr (alone at.rests at.scans.0 p (kept_later p h)))

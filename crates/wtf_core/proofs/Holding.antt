@@ -1,27 +1,8 @@
 -- What a keeper holds goes on being an image that is kept for it.
-use Rattle.std.proofs.Common.{◌≡◌, ◌≢◌, ◌≤◌, ℕ, true, List, [], ◌∷◌, Some, sym, ap, ◌∙◌, subst, ◌⊎◌, inl, inr, ⊎_elim, arith}
-use Rattle.std.specs.List.{Contains}
-use Rattle.std.specs.Option.{option_map}
-use Rattle.std.proofs.lemmas.List.Elements.{Contains-append_left, Contains-push, Contains-push_cases}
-use Rattle.wtf_base.specs.declared.settings.Settings.{Settings}
-use Rattle.wtf_dev.specs.Keep.{KeeperKept}
-use Rattle.wtf_dev.specs.Store.{StoreKind}
-use Rattle.wtf_replica.specs.Spans.{Span}
-use Rattle.wtf_model.specs.declared.answer.Answer.{Answer}
-use Rattle.wtf_model.specs.declared.answer.Answer.TheVariants as answer
-use Rattle.wtf_model.specs.declared.event.Event.{Event}
-use Rattle.wtf_model.specs.declared.event.Event.TheVariants as event
-use Rattle.wtf_meta.specs.Maps.{Map, metadata_at}
-use Rattle.wtf_image.specs.Lookups.{plain}
-use Rattle.wtf_image.specs.Saving.{Says}
-use Rattle.wtf_clients.specs.Views.{BesideView, TablesView}
-use Rattle.wtf_core.specs.Views.{CoreView}
-use Rattle.wtf_clients.specs.Sounds.{AreSound, IsTidied}
-use Rattle.wtf_clients.specs.Saves.{with_image, only_image, Saves, SaveTurn}
-use Rattle.wtf_core.specs.Turns.{LineTurn}
-use Rattle.wtf_clients.specs.Keeping.{KeeperSpan, Hands, SyncFailed, KeeperFailed, KeeperTurn, IsImageAt, IsHeldBy, HoldsKept}
-use Rattle.wtf_clients.proofs.Images.{kept_pinned}
-use Rattle.wtf_clients.proofs.Lives.{pinned_live, live_upto}
+use Rattle.wtf_core.proofs.Common.{Contains, Settings, Event, plain, CoreView, AreSound, IsTidied, SaveTurn, LineTurn, IsHeldBy, HoldsKept, live_upto, ⊎_elim}
+use Rattle.wtf_core.proofs.Common.{option_map, Contains-append_left, Contains-push, Contains-push_cases, metadata_at, KeeperFailed, kept_pinned, pinned_live, ℕ}
+use Rattle.wtf_core.proofs.Common.{KeeperKept, StoreKind, Answer, BesideView, TablesView, with_image, only_image, KeeperSpan, SyncFailed, KeeperTurn, IsImageAt}
+use Rattle.wtf_core.proofs.Common.{Span, Map, Says, Saves, Hands, ◌≡◌, ◌≢◌, ◌≤◌, true, List, [], ◌∷◌, Some, sym, ap, ◌∙◌, subst, ◌⊎◌, inl, inr, arith}
 use Rattle.wtf_core.proofs.Moves.{GoesLive, goes_live, line_moves}
 
 -- what every keeper keeps to
@@ -120,9 +101,9 @@ module _ {S : Type 0} (kind : StoreKind S) (t : Span S) (k : KeeperSpan) (laws :
   either_held now saves (inl failed) held = untouched_held now saves failed held
   either_held now saves (inr failed) held = failed_held now saves failed held
 
-  pub save_held : (Up : Type 0) (a : Answer) → SaveTurn Up old new a → KeeperTurn kind t k settings old new event.Save a → k.before.tells ≡ true
+  pub save_held : (Up : Type 0) (a : Answer) → SaveTurn Up old new a → KeeperTurn kind t k settings old new Event.Save a → k.before.tells ≡ true
       → HoldsKept k.before settings old → HoldsKept k.after settings new
-  save_held Up (answer.Saved n) (number, up, saves) did tells held = (
+  save_held Up (Answer.Saved n) (number, up, saves) did tells held = (
     did.hands.bytes,
     did.held tells,
     inr (
@@ -132,23 +113,23 @@ module _ {S : Type 0} (kind : StoreKind S) (t : Span S) (k : KeeperSpan) (laws :
       new_held (only_image old.beside n) saves did.hands,
     ),
   )
-  save_held Up answer.FaultSave (inl saves) did tells held = either_held old.beside saves did held
-  save_held Up answer.FaultSave (inr saves) did tells held = either_held (with_image old.beside old.kv.number) saves did held
+  save_held Up Answer.FaultSave (inl saves) did tells held = either_held old.beside saves did held
+  save_held Up Answer.FaultSave (inr saves) did tells held = either_held (with_image old.beside old.kv.number) saves did held
   save_held Up a turn did tells held = absurd turn
 
 -- what the keeper was handed is so also where versions that no one sees are dropped
 module _ {S : Type 0} (kind : StoreKind S) (t : Span S) (k : KeeperSpan) (settings : Settings) (old mid new : TablesView) (same : new.beside ≡ mid.beside) where
   pub keeper_on : (e : Event) (a : Answer) → KeeperTurn kind t k settings old mid e a → KeeperTurn kind t k settings old new e a
-  keeper_on event.Save (answer.Saved n) h = h
-  keeper_on event.Save answer.FaultSave (inl h) = inl (record { out = h.out; untouched = h.untouched; beside = same ∙ h.beside })
-  keeper_on event.Save answer.FaultSave (inr h) = inr (record { hands = h.hands; rose = h.rose; refused = h.refused; beside = same ∙ h.beside })
-  keeper_on event.Save a h = h
+  keeper_on Event.Save (Answer.Saved n) h = h
+  keeper_on Event.Save Answer.FaultSave (inl h) = inl (record { out = h.out; untouched = h.untouched; beside = same ∙ h.beside })
+  keeper_on Event.Save Answer.FaultSave (inr h) = inr (record { hands = h.hands; rose = h.rose; refused = h.refused; beside = same ∙ h.beside })
+  keeper_on Event.Save a h = h
   keeper_on e a h = h
 
 -- each line
 module _ {S : Type 0} (kind : StoreKind S) (t : Span S) (k : KeeperSpan) (laws : KeeperLaws k) (old new : CoreView)
     (sound : AreSound old.tables) (a : Answer) where
-  other_held : (e : Event) → e ≢ event.Save → LineTurn kind t old new e a → k.untouched → HoldsKept k.before old.settings old.tables
+  other_held : (e : Event) → e ≢ Event.Save → LineTurn kind t old new e a → k.untouched → HoldsKept k.before old.settings old.tables
       → HoldsKept k.after old.settings new.tables
   other_held e ne turn untouched (bytes, held, is) = (
     bytes,
@@ -158,5 +139,5 @@ module _ {S : Type 0} (kind : StoreKind S) (t : Span S) (k : KeeperSpan) (laws :
 
   pub line_held : (e : Event) → LineTurn kind t old new e a → KeeperTurn kind t k old.settings old.tables new.tables e a → k.before.tells ≡ true
       → HoldsKept k.before old.settings old.tables → HoldsKept k.after old.settings new.tables
-  line_held event.Save turn did tells held = save_held kind t k laws old.settings old.tables new.tables sound _ a turn.0 did tells held
+  line_held Event.Save turn did tells held = save_held kind t k laws old.settings old.tables new.tables sound _ a turn.0 did tells held
   line_held e turn did tells held = other_held e (λ is. absurd (cc)) turn did held

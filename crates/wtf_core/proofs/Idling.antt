@@ -1,18 +1,10 @@
 -- Where no transaction and no job is open, and a scan that runs has pinned no other, just the number now, those of the images and the one that is
 -- watched can be read.
-use Rattle.std.proofs.Common.{◌≡◌, ◌<◌, ℕ, Bool, true, ◌||◌, nat_eq, List, [], ◌∷◌, Option, None, Some, refl, sym, ap, ◌∙◌}
-use Rattle.std.proofs.Common.{⊎_elim, arith}
-use Rattle.std.specs.Prelude.{IsTrue, if◌then◌else◌}
-use Rattle.std.specs.List.{list_any}
-use Rattle.std.proofs.lemmas.Bool.{cases_Bool, or_cases, or_left, or_right, cases_lt, eq-eqb, false≢true}
-use Rattle.wtf_kv.specs.Stores.{is_live, is_pinned}
-use Rattle.wtf_kv.proofs.PinLaws.{any-count, count-any}
-use Rattle.wtf_gc.specs.Views.{RunView}
-use Rattle.wtf_clients.specs.Sounds.{all_seen, all_watched, AreSound}
-use Rattle.wtf_clients.specs.Views.{Clients, TablesView, of_client, of_label}
-use Rattle.wtf_clients.proofs.KeptNames.{none_owned, none_planned}
-use Rattle.wtf_clients.proofs.Lives.{live_cases}
-use Rattle.wtf_core.specs.Quiet.{AreIdle, IsAtRest, is_kept, is_watched}
+use Rattle.wtf_core.proofs.Common.{IsTrue, if◌then◌else◌, list_any, cases_Bool, or_cases, or_left, or_right, cases_lt, eq-eqb, false≢true, is_live, is_pinned}
+use Rattle.wtf_core.proofs.Common.{any-count, count-any, RunView, all_seen, all_watched, AreSound, Clients, TablesView, of_client, of_label, none_owned}
+use Rattle.wtf_core.proofs.Common.{none_planned, live_cases, AreIdle, IsAtRest, is_watched, ◌≡◌, ◌<◌, ℕ, Bool, true, ◌||◌, nat_eq, List, [], ◌∷◌, Option, None}
+use Rattle.wtf_core.proofs.Common.{Some, refl, sym, ap, ◌∙◌, ⊎_elim, arith}
+use Rattle.wtf_core.specs.Quiet.{is_kept}
 
 -- what is watched is counted once
 watched_some : (n : ℕ) (o : Option ℕ) → 0 < all_watched n o → is_watched o n ≡ true
@@ -44,10 +36,8 @@ live_kept tables sound idle seen n live = ⊎_elim
     (⊎_elim
     (λ watched. or_right images (is_watched tables.beside.watched n) (watched_some n tables.beside.watched watched))
     (λ other. or_left images (is_watched tables.beside.watched n)
-    (any-count n tables.beside.images (omega (arith, some, pins, owned, jobs, none, other))))
-    (cases_lt 0 (all_watched n tables.beside.watched))))
-    (cases_lt 0 (all_seen n tables.beside.gc.running)))
-    (live_cases tables.kv n live)
+    (any-count n tables.beside.images (omega (arith, some, pins, owned, jobs, none, other)))) (cases_lt 0 (all_watched n tables.beside.watched))))
+    (cases_lt 0 (all_seen n tables.beside.gc.running))) (live_cases tables.kv n live)
   where
     images : Bool
     images = list_any (nat_eq n) tables.beside.images
@@ -70,8 +60,7 @@ kept_live tables sound n kept = ⊎_elim
     (λ watched.
     let some = watched_counts n tables.beside.watched watched in
     let pins = sound.pins n in
-    any-count n tables.kv.pins (omega (arith, some, pins)))
-    (or_cases (list_any (nat_eq n) tables.beside.images) (is_watched tables.beside.watched n) noted)))
+    any-count n tables.kv.pins (omega (arith, some, pins))) (or_cases (list_any (nat_eq n) tables.beside.images) (is_watched tables.beside.watched n) noted)))
     (or_cases (nat_eq n tables.kv.number) (list_any (nat_eq n) tables.beside.images || is_watched tables.beside.watched n) kept)
 
 -- tables of the same number and images, in which the same is watched
@@ -84,10 +73,8 @@ kept_same old new number images watched n =
 
 -- ---- nothing is open, and the keeper holds the image at the number
 pub idle_on : (old new : TablesView) → new.clients ≡ old.clients → new.beside.jobs ≡ old.beside.jobs → AreIdle old → AreIdle new
-idle_on old new clients jobs h = record {
-  clients = λ c. ap (λ (cs : Clients). of_client cs c) clients ∙ h.clients c;
-  jobs = λ j. ap (λ js. of_label js j) jobs ∙ h.jobs j;
-}
+idle_on old new clients jobs h =
+    record { clients = λ c. ap (λ (cs : Clients). of_client cs c) clients ∙ h.clients c; jobs = λ j. ap (λ js. of_label js j) jobs ∙ h.jobs j }
 
 pub rests_on : (old new : TablesView) → new.clients ≡ old.clients → new.beside.jobs ≡ old.beside.jobs → new.beside.images ≡ old.beside.images
     → new.beside.none ≡ old.beside.none → new.beside.watched ≡ old.beside.watched → new.kv.number ≡ old.kv.number → IsAtRest old → IsAtRest new

@@ -1,63 +1,17 @@
 -- Each line of a job keeps the tables sound, and is the machine's.
 -- NSDI 2016, section 2.8 (lists of regions are compacted, and written into slices of their own, beside the calls of clients).
-use Rattle.std.proofs.Common.{◌≡◌, ◌≢◌, ◌⊎◌, ◌≤◌, ℕ, ◌+◌, true, List, [], Option, None, Some, Ok, MatchOption, refl, sym, ap}
-use Rattle.std.proofs.Common.{◌∙◌, subst, inl, inr, arith}
-use Rattle.std.specs.FinMap.{get, remove}
-use Rattle.std.specs.Option.{option_map}
-use Rattle.wtf_kv.specs.Stores.{Store, versions_of}
-use Rattle.wtf_values.specs.declared.key.Key.{Key}
-use Rattle.wtf_values.specs.declared.key.Key.TheVariants.{Region}
-use Rattle.wtf_values.specs.declared.value.Value.{Value}
-use Rattle.wtf_values.specs.Keys.{key_cmp}
-use Rattle.wtf_model.specs.declared.answer.Answer.{Answer}
-use Rattle.wtf_model.specs.declared.answer.Answer.TheVariants as answer
-use Rattle.wtf_model.specs.declared.answer.Word.{Word}
-use Rattle.wtf_model.specs.declared.answer.Word.TheVariants.{NoJob, JobInUse}
-use Rattle.wtf_model.specs.declared.item.Item.{Item}
-use Rattle.wtf_model.specs.declared.item.Item.TheVariants.{BodyOf}
-use Rattle.wtf_model.specs.declared.op.JobKind.{JobKind}
-use Rattle.wtf_model.specs.Faults.{or_refusal}
-use Rattle.wtf_model.specs.Items.{bodies_at, meets, source_reads}
-use Rattle.wtf_model.specs.Jobs.{is_idle, has_region, plan_answer, MayFailPlan, MayPut, job_changes, drop_answer}
-use Rattle.wtf_model.specs.Machines.{Machine}
-use Rattle.wtf_model.specs.Steps.{touch, touch_job, with_job, without_job, put_in_place, dropped}
-use Rattle.wtf_model.specs.Transaction.{Job}
-use Rattle.wtf_model.specs.Tree.{◌>>=◌, paths_at, source}
-use Rattle.wtf_model.proofs.ItemLaws.{is_among-bodies, get-each, get-each_none}
-use Rattle.wtf_model.proofs.JobLaws.{plan-taken}
-use Rattle.wtf_model.proofs.Laws.{get-number_same, get-number_other}
-use Rattle.wtf_meta.specs.Bytes.{MaybeBytes}
-use Rattle.wtf_meta.specs.Contents.{Told, is_told, is_listed}
-use Rattle.wtf_meta.specs.Feet.{Has}
-use Rattle.wtf_meta.specs.Maps.{Map, with, metadata_at}
-use Rattle.wtf_meta.specs.Trees.{LeadsTo, Stands}
-use Rattle.wtf_meta.proofs.Named.{region_of_bytes}
-use Rattle.wtf_meta.proofs.Standing.{leads-paths}
-use Rattle.wtf_meta.proofs.Telling.{TellsOn}
-use Rattle.wtf_replay.specs.Tried.{KeepsVersions}
-use Rattle.wtf_image.specs.Savable.{AreBefore}
-use Rattle.wtf_compact.specs.Jobs.{JobView, job_edits, target_region}
-use Rattle.wtf_compact.specs.Planned.{KeepsRegion}
-use Rattle.wtf_compact.specs.Putting.{IsJobPut, IsInPlace, IsStale}
-use Rattle.wtf_compact.proofs.PutLaws.{put_stands}
-use Rattle.wtf_clients.specs.Views.{TablesView, of_label, metadata_now}
-use Rattle.wtf_clients.specs.Seeing.{Seeing}
-use Rattle.wtf_clients.specs.Sounds.{AreSound}
-use Rattle.wtf_clients.specs.Standing.{StandsForJob, StandsForLabel, TablesStand}
-use Rattle.wtf_clients.specs.Touched.{Touched, above}
-use Rattle.wtf_clients.specs.Turns.{AreTrue}
-use Rattle.wtf_clients.specs.JobTurns.{RefusesJob, plan_due, Plans, PlansSoundly, PlanRefused, PlanFails, FreePlan, PlanTurn, Puts, PutTurn, DropsJob, DropTurn}
-use Rattle.wtf_clients.proofs.Frames.{untouched_same, untouched_job}
-use Rattle.wtf_clients.proofs.Images.{before_more, before_same, before_own}
-use Rattle.wtf_clients.proofs.JobFrames.{JobTurned, job_stands}
-use Rattle.wtf_clients.proofs.JobKeeping.{known_later, keeps_later}
-use Rattle.wtf_clients.proofs.JobTurning.{plan_turned, put_turned, drop_turned}
-use Rattle.wtf_clients.proofs.Later.{Stands-later}
-use Rattle.wtf_clients.proofs.PutFeet.{put_own, put_map, put_touched, put_since, stale_met}
-use Rattle.wtf_clients.proofs.Staying.{fault_is}
-use Rattle.wtf_clients.proofs.SinceLaws.{touched_base, touched_kept, since_kept}
-use Rattle.wtf_core.proofs.Machines.{gone_here, gone_there}
-use Rattle.wtf_core.proofs.Plain.{tables_later}
+use Rattle.wtf_core.proofs.Common.{get, remove, option_map, Store, versions_of, Key, Region, Value, key_cmp, Answer, Word, NoJob, JobInUse, Item, BodyOf}
+use Rattle.wtf_core.proofs.Common.{JobKind, or_refusal, bodies_at, meets, source_reads, is_idle, has_region, plan_answer, MayFailPlan, MayPut, job_changes}
+use Rattle.wtf_core.proofs.Common.{drop_answer, Machine, touch, touch_job, with_job, without_job, put_in_place, dropped, Job, ◌>>=◌, paths_at, source}
+use Rattle.wtf_core.proofs.Common.{is_among-bodies, get-each, get-each_none, plan-taken, get-number_same, get-number_other, MaybeBytes, Told, is_told}
+use Rattle.wtf_core.proofs.Common.{is_listed, Has, Map, with, metadata_at, LeadsTo, Stands, region_of_bytes, leads-paths, TellsOn, KeepsVersions, AreBefore}
+use Rattle.wtf_core.proofs.Common.{JobView, job_edits, target_region, KeepsRegion, IsJobPut, IsInPlace, IsStale, put_stands, TablesView, of_label, metadata_now}
+use Rattle.wtf_core.proofs.Common.{Seeing, AreSound, StandsForJob, StandsForLabel, TablesStand, Touched, above, AreTrue, RefusesJob, plan_due, Plans}
+use Rattle.wtf_core.proofs.Common.{PlansSoundly, PlanRefused, PlanFails, FreePlan, PlanTurn, Puts, PutTurn, DropsJob, DropTurn, untouched_same, untouched_job}
+use Rattle.wtf_core.proofs.Common.{before_more, before_same, before_own, JobTurned, job_stands, known_later, keeps_later, plan_turned, put_turned, drop_turned}
+use Rattle.wtf_core.proofs.Common.{Stands-later, put_own, put_map, put_touched, put_since, stale_met, fault_is, touched_base, touched_kept, since_kept, ◌≡◌}
+use Rattle.wtf_core.proofs.Common.{◌≢◌, ◌⊎◌, ◌≤◌, ℕ, ◌+◌, true, List, [], Option, None, Some, Ok, MatchOption, refl, sym, ap, ◌∙◌, subst, inl, inr, arith}
+use Rattle.wtf_core.proofs.{Machines.gone_here, Machines.gone_there, Plain.tables_later}
 
 -- ---- what a label has in the machine
 
@@ -75,7 +29,7 @@ label_some size told kv (Some y) (Some t) x h e = (t, refl, subst (λ (z : JobVi
 -- a plan is due as it is on the tree now, where the label is free
 answer_free : (m : Machine) (j : ℕ) (p : List ℕ) (r : ℕ) → get m.jobs j ≡ None → plan_answer m j p r ≡ plan_due m.settings.region m.now p r
 answer_free m j p r none = ap (λ o. or_refusal
-    (is_idle o >>= (λ _. source m.now p >>= (λ bytes. has_region m.settings.region bytes r >>= (λ _. Ok answer.Planned))))) none
+    (is_idle o >>= (λ _. source m.now p >>= (λ bytes. has_region m.settings.region bytes r >>= (λ _. Ok Answer.Planned))))) none
 
 module _ (old new : TablesView) (j : ℕ) (sound : AreSound old) where
   -- ---- they stand for the machine
@@ -92,20 +46,17 @@ module _ (old new : TablesView) (j : ℕ) (sound : AreSound old) where
       trees_same : (tx : ℕ) → Stands size told tx 0 (metadata_now old.kv) m.now → Stands size later tx 0 (metadata_now new.kv) m.now
       trees_same tx was = subst (λ w. Stands size later tx 0 w m.now) (sym map_same) (Stands-later told later on size tx 0 (metadata_now old.kv) m.now was)
 
-      kept_stand : (after : Machine) → after.number ≡ m.number → after.now ≡ m.now → after.may_be_saved ≡ m.may_be_saved
-          → after.transactions ≡ m.transactions → ((l : ℕ) → l ≢ j → get after.jobs l ≡ get m.jobs l)
-          → StandsForLabel size later new.kv now (get after.jobs j) → TablesStand size later new after
+      kept_stand : (after : Machine) → after.number ≡ m.number → after.now ≡ m.now → after.may_be_saved ≡ m.may_be_saved → after.transactions ≡ m.transactions
+          → ((l : ℕ) → l ≢ j → get after.jobs l ≡ get m.jobs l) → StandsForLabel size later new.kv now (get after.jobs j) → TablesStand size later new after
       kept_stand after number2 tree may transactions others own =
-          job_stands old new j now sound turned size told later m after [] st on
-          (number2 ∙ st.number ∙ sym number) tree may
+          job_stands old new j now sound turned size told later m after [] st on (number2 ∙ st.number ∙ sym number) tree may
           (λ c. untouched_same (get m.transactions c) (get after.transactions c) (ap (λ ts. get ts c) transactions))
           (λ l ne. untouched_job (get m.jobs l) (get after.jobs l) (others l ne))
           trees_same
           (λ tx base items based stands since. since_kept old.kv new.kv tx base items since based turned.maps number versions)
           (λ base items based touched. touched_kept old.kv new.kv base items touched based turned.maps number versions)
           (before_same old.next_tx new.next_tx (metadata_now old.kv) (metadata_now new.kv) map_same
-          (let next = turned.keeps.next_tx in omega (arith, next)) st.before)
-          own
+          (let next = turned.keeps.next_tx in omega (arith, next)) st.before) own
 
     -- ---- a put
     module _ (x : JobView) (there : of_label old.beside.jobs j ≡ Some x) (t : Job) (job : StandsForJob size told old.kv x t)
@@ -114,11 +65,11 @@ module _ (old new : TablesView) (j : ℕ) (sound : AreSound old) where
       body_is : job_changes m.now (get m.jobs j) ≡ bodies_at m.now x.path
       body_is = ap (job_changes m.now) found ∙ ap (bodies_at m.now) job.path
 
-      installed_stand : (n : ℕ) → Puts old new j x (answer.Installed n)
-          → MayPut m (Some t) (answer.Installed n) × TablesStand size later new (put_in_place m j (answer.Installed n))
+      installed_stand : (n : ℕ) → Puts old new j x (Answer.Installed n)
+          → MayPut m (Some t) (Answer.Installed n) × TablesStand size later new (put_in_place m j (Answer.Installed n))
       installed_stand n did =
           let put : IsInPlace x old.kv new.kv n = did.put in
-          let turned = put_turned old new j sound x there (answer.Installed n) did in
+          let turned = put_turned old new j sound x there (Answer.Installed n) did in
           let leads_now : LeadsTo (metadata_now old.kv) x.path x.target.inode = put.agree.0 ∙ job.leads in
           let first : Stands size told old.next_tx 0 (metadata_now old.kv) m.now = st.later old.next_tx (omega arith) in
           let items : List Item = job_changes m.now (get m.jobs j) in
@@ -128,13 +79,13 @@ module _ (old new : TablesView) (j : ℕ) (sound : AreSound old) where
           let keeps : KeepsRegion size later (target_region (metadata_at old.kv x.base) x.target) x.value =
           keeps_later told later on size (target_region (metadata_at old.kv x.base) x.target) x.value job.known job.keeps in
           let trees : (tx : ℕ) → Stands size told tx 0 (metadata_now old.kv) m.now → Stands size later tx 0 (metadata_now new.kv) m.now = λ tx was.
-          put_stands size later tx 0 m.now (answer.Installed n) x old.kv new.kv put keeps
+          put_stands size later tx 0 m.now (Answer.Installed n) x old.kv new.kv put keeps
           (Stands-later told later on size tx 0 (metadata_now old.kv) m.now was) in
           let next = put.next in
           let after : Map = with (job_edits x) (metadata_now old.kv) in
           let up : ◌≤◌ old.next_tx new.next_tx = let more = did.keeps.next_tx in omega (arith, more) in (
             next ∙ ap (λ k. k + 1) (sym st.number),
-            job_stands old new j None sound turned size told later m (put_in_place m j (answer.Installed n)) items st on
+            job_stands old new j None sound turned size told later m (put_in_place m j (Answer.Installed n)) items st on
                 (sym put.number) refl refl
                 (λ c. get-each (touch items) m.transactions c)
                 (λ l ne. get-each (touch_job items) (remove m.jobs j) l ∙ ap (option_map (touch_job items)) (gone_there m.jobs j l ne))
@@ -142,24 +93,21 @@ module _ (old new : TablesView) (j : ℕ) (sound : AreSound old) where
                 (λ tx base its based was since. put_since x old.kv new.kv n put items each size told later m.now tx was (trees tx was) base its
                 (did.maps base based) since)
                 (λ base its based was. put_touched x old.kv new.kv n put items each size told later m.now old.next_tx first (trees old.next_tx first) base its
-                (did.maps base based) was)
-                (subst (AreBefore new.next_tx) (sym (put_map x old.kv new.kv n put items each))
-                (before_more old.next_tx new.next_tx after up
-                (before_own 0 old.next_tx (metadata_now old.kv) after sound.begun
-                (put_own x.target.inode x.target.region 0 x.value (metadata_now old.kv)) st.before)))
-                (subst (λ o. StandsForLabel size later new.kv None o)
+                (did.maps base based) was) (subst (AreBefore new.next_tx) (sym (put_map x old.kv new.kv n put items each))
+                (before_more old.next_tx new.next_tx after up (before_own 0 old.next_tx (metadata_now old.kv) after sound.begun
+                (put_own x.target.inode x.target.region 0 x.value (metadata_now old.kv)) st.before))) (subst (λ o. StandsForLabel size later new.kv None o)
                 (sym (get-each_none (touch_job items) (remove m.jobs j) j (gone_here m.jobs j))) tt),
           )
 
-      stale_stand : (b n : ℕ) → Puts old new j x (answer.Stale b n)
-          → MayPut m (Some t) (answer.Stale b n) × TablesStand size later new (put_in_place m j (answer.Stale b n))
+      stale_stand : (b n : ℕ) → Puts old new j x (Answer.Stale b n)
+          → MayPut m (Some t) (Answer.Stale b n) × TablesStand size later new (put_in_place m j (Answer.Stale b n))
       stale_stand b n did =
           let put : IsStale x old.kv new.kv b n = did.put in (
             (
               (put.base ∙ sym job.base, put.now ∙ sym st.number, put.later),
               subst (λ q. meets t.touched (source_reads q) ≡ true) (sym job.path) (stale_met x old.kv new.kv b n t.touched put job.leads job.touched),
             ),
-            kept_stand None (put_turned old new j sound x there (answer.Stale b n) did) put.number put.versions
+            kept_stand None (put_turned old new j sound x there (Answer.Stale b n) did) put.number put.versions
                 (without_job m j) refl refl refl refl (λ l ne. gone_there m.jobs j l ne)
                 (subst (λ o. StandsForLabel size later new.kv None o) (sym (gone_here m.jobs j)) tt),
           )
@@ -168,8 +116,8 @@ module _ (old new : TablesView) (j : ℕ) (sound : AreSound old) where
       puts_stand a did = by a did did.put
         where
           by : (b : Answer) → Puts old new j x b → IsJobPut x old.kv new.kv b → MayPut m (Some t) b × TablesStand size later new (put_in_place m j b)
-          by (answer.Installed n) d put = installed_stand n d
-          by (answer.Stale c n) d put = stale_stand c n d
+          by (Answer.Installed n) d put = installed_stand n d
+          by (Answer.Stale c n) d put = stale_stand c n d
           by b d put = absurd put
 
     pub put_stand : (a : Answer) → PutTurn old new j a → MayPut m (get m.jobs j) a × TablesStand size later new (put_in_place m j a)
@@ -178,10 +126,8 @@ module _ (old new : TablesView) (j : ℕ) (sound : AreSound old) where
         by : (o : Option JobView) → of_label old.beside.jobs j ≡ o → MatchOption o (RefusesJob old new NoJob a) (λ x. Puts old new j x a)
             → MayPut m (get m.jobs j) a × TablesStand size later new (put_in_place m j a)
         by None none g =
-            let free : get m.jobs j ≡ None = label_none size told old.kv (of_label old.beside.jobs j) (get m.jobs j) (st.jobs j) none in (
-              subst (λ o. MayPut m o a) (sym free) g.answer,
-              subst (λ b. TablesStand size later new (put_in_place m j b)) (sym g.answer) (same_stand g.same),
-            )
+            let free : get m.jobs j ≡ None = label_none size told old.kv (of_label old.beside.jobs j) (get m.jobs j) (st.jobs j) none in
+            (subst (λ o. MayPut m o a) (sym free) g.answer, subst (λ b. TablesStand size later new (put_in_place m j b)) (sym g.answer) (same_stand g.same))
         by (Some x) there g =
             let found = label_some size told old.kv (of_label old.beside.jobs j) (get m.jobs j) x (st.jobs j) there in
             let both = puts_stand x there found.0 found.2 found.1 a g in
@@ -194,10 +140,8 @@ module _ (old new : TablesView) (j : ℕ) (sound : AreSound old) where
         by : (o : Option JobView) → of_label old.beside.jobs j ≡ o → MatchOption o (RefusesJob old new NoJob a) (λ x. DropsJob old new j x a)
             → (a ≡ drop_answer (get m.jobs j)) × TablesStand size later new (dropped m j a)
         by None none g =
-            let free : get m.jobs j ≡ None = label_none size told old.kv (of_label old.beside.jobs j) (get m.jobs j) (st.jobs j) none in (
-              g.answer ∙ sym (ap drop_answer free),
-              subst (λ b. TablesStand size later new (dropped m j b)) (sym g.answer) (same_stand g.same),
-            )
+            let free : get m.jobs j ≡ None = label_none size told old.kv (of_label old.beside.jobs j) (get m.jobs j) (st.jobs j) none in
+            (g.answer ∙ sym (ap drop_answer free), subst (λ b. TablesStand size later new (dropped m j b)) (sym g.answer) (same_stand g.same))
         by (Some x) there g =
             let found = label_some size told old.kv (of_label old.beside.jobs j) (get m.jobs j) x (st.jobs j) there in (
               g.answer ∙ sym (ap drop_answer found.1),
@@ -247,7 +191,7 @@ module _ (old new : TablesView) (j : ℕ) (sound : AreSound old) where
           }
 
       planned_stand : of_label old.beside.jobs j ≡ None → PlansSoundly z old new j kind p r
-          → May answer.Planned × TablesStand z.size z.later new (with_job m j kind p r answer.Planned)
+          → May Answer.Planned × TablesStand z.size z.later new (with_job m j kind p r Answer.Planned)
       planned_stand none h =
           let free : get m.jobs j ≡ None = label_none z.size z.told old.kv (of_label old.beside.jobs j) (get m.jobs j) (st.jobs j) none in
           let x : JobView = h.job in
@@ -256,22 +200,21 @@ module _ (old new : TablesView) (j : ℕ) (sound : AreSound old) where
             inl (sym (due_is free ∙ h.due old.next_tx 0 m.now tree_now)),
             kept_stand z.size z.told z.later m st on (Some x) (plan_turned old new j sound kind p r x none h.plans) number
                 (λ q. ap (λ (s : Store Key Value). versions_of key_cmp s q) h.plans.kv)
-                (with_job m j kind p r answer.Planned) refl refl refl refl
+                (with_job m j kind p r Answer.Planned) refl refl refl refl
                 (λ l ne. get-number_other m.jobs j t l ne)
                 (subst (λ o. StandsForLabel z.size z.later new.kv (Some x) o) (sym (get-number_same m.jobs j t))
                 (plan_job x h.plans (h.keeps (telling.0, telling.1, tree_now.bytes)))),
           )
 
       fault_stays : (b : Answer) → PlanFails z old new kind p r b → with_job m j kind p r b ≡ m
-      fault_stays (answer.FaultRead k) h = refl
-      fault_stays answer.FaultWrite h = refl
-      fault_stays (answer.FaultPunch k) h = refl
-      fault_stays (answer.Damaged k) h = refl
-      fault_stays answer.Planned h = absurd (fault_is h.why answer.Planned h.answer)
+      fault_stays (Answer.FaultRead k) h = refl
+      fault_stays Answer.FaultWrite h = refl
+      fault_stays (Answer.FaultPunch k) h = refl
+      fault_stays (Answer.Damaged k) h = refl
+      fault_stays Answer.Planned h = absurd (fault_is h.why Answer.Planned h.answer)
       fault_stays b h = refl
 
-      failed_stand : of_label old.beside.jobs j ≡ None → PlanFails z old new kind p r a
-          → May a × TablesStand z.size z.later new (with_job m j kind p r a)
+      failed_stand : of_label old.beside.jobs j ≡ None → PlanFails z old new kind p r a → May a × TablesStand z.size z.later new (with_job m j kind p r a)
       failed_stand none h =
           let free : get m.jobs j ≡ None = label_none z.size z.told old.kv (of_label old.beside.jobs j) (get m.jobs j) (st.jobs j) none in (
             inr (subst (λ d. MayFailPlan m.settings.servers kind d a) (sym (due_is free))
@@ -280,7 +223,7 @@ module _ (old new : TablesView) (j : ℕ) (sound : AreSound old) where
           )
 
       refused_stand : (w : Word) → of_label old.beside.jobs j ≡ None → PlanRefused z old new p r w
-          → May (answer.Refused w) × TablesStand z.size z.later new (with_job m j kind p r (answer.Refused w))
+          → May (Answer.Refused w) × TablesStand z.size z.later new (with_job m j kind p r (Answer.Refused w))
       refused_stand w none h =
           let free : get m.jobs j ≡ None = label_none z.size z.told old.kv (of_label old.beside.jobs j) (get m.jobs j) (st.jobs j) none in
           (inl (sym (due_is free ∙ h.due old.next_tx 0 m.now tree_now)), same_stand z.size z.told z.later m st on h.same)
@@ -294,20 +237,18 @@ module _ (old new : TablesView) (j : ℕ) (sound : AreSound old) where
           )
 
     pub plan_stands : (kind : JobKind) (p : List ℕ) (r : ℕ) (a : Answer)
-        → m.settings.region ≡ z.size → m.settings.servers ≡ z.servers → z.telling × AreTrue z.size z.told z.lists old
-        → PlanTurn z old new j kind p r a
+        → m.settings.region ≡ z.size → m.settings.servers ≡ z.servers → z.telling × AreTrue z.size z.told z.lists old → PlanTurn z old new j kind p r a
         → ((a ≡ plan_answer m j p r) ⊎ MayFailPlan m.settings.servers kind (plan_answer m j p r) a) × TablesStand z.size z.later new (with_job m j kind p r a)
     plan_stands kind p r a region count telling turn = by (of_label old.beside.jobs j) refl turn
       where
         free : (b : Answer) → of_label old.beside.jobs j ≡ None → FreePlan z old new j kind p r b
             → ((b ≡ plan_answer m j p r) ⊎ MayFailPlan m.settings.servers kind (plan_answer m j p r) b)
             × TablesStand z.size z.later new (with_job m j kind p r b)
-        free answer.Planned none g = planned_stand kind p r answer.Planned region count telling none g
-        free (answer.Refused w) none g = refused_stand kind p r (answer.Refused w) region count telling w none g
+        free Answer.Planned none g = planned_stand kind p r Answer.Planned region count telling none g
+        free (Answer.Refused w) none g = refused_stand kind p r (Answer.Refused w) region count telling w none g
         free b none g = failed_stand kind p r b region count telling none g
 
-        by : (o : Option JobView) → of_label old.beside.jobs j ≡ o
-            → MatchOption o (FreePlan z old new j kind p r a) (λ x. RefusesJob old new JobInUse a)
+        by : (o : Option JobView) → of_label old.beside.jobs j ≡ o → MatchOption o (FreePlan z old new j kind p r a) (λ x. RefusesJob old new JobInUse a)
             → ((a ≡ plan_answer m j p r) ⊎ MayFailPlan m.settings.servers kind (plan_answer m j p r) a)
             × TablesStand z.size z.later new (with_job m j kind p r a)
         by None none g = free a none g

@@ -1,56 +1,22 @@
 -- Lines of the tables over what these are lent, and what a core makes of them.
-use Rattle.std.proofs.Common.{◌≡◌, ◌≢◌, ◌≤◌, ℕ, Bool, true, false, List, [], length, Result, Ok, Err, IfOk, OnOk, OnErr, IsOk, refl, sym, ap, ◌∙◌, subst}
-use Rattle.std.specs.Prelude.{IsTrue}
-use Rattle.std.proofs.lemmas.Bool.{true≢false}
-use Rattle.wtf_base.specs.declared.settings.Settings.{Settings}
-use Rattle.wtf_dev.specs.Store.{Range, StoreKind, KindLaws}
-use Rattle.wtf_ring.specs.Points.{IsRing}
-use Rattle.wtf_replica.specs.Downs.{is_down}
-use Rattle.wtf_replica.specs.Outs.{SameSyncs}
-use Rattle.wtf_replica.specs.Spans.{Span}
-use Rattle.wtf_region.specs.declared.dev.Dev.{Dev}
-use Rattle.wtf_region.specs.Cached.{Remembered, AreFrom, CacheInside}
-use Rattle.wtf_region.specs.Devs.{IsSoundDev, GoesOn, stores, remembered, between, inside_of}
-use Rattle.wtf_region.specs.Inside.{is_inside}
-use Rattle.wtf_region.proofs.Spans.{goes_nowhere}
-use Rattle.wtf_meta.specs.Bytes.{any_slice}
-use Rattle.wtf_model.specs.declared.answer.Answer.{Answer}
-use Rattle.wtf_model.specs.declared.event.Event.{Event}
-use Rattle.wtf_model.specs.declared.event.Event.TheVariants as event
-use Rattle.wtf_model.specs.declared.event.Verb.TheVariants as verb
-use Rattle.wtf_clients.specs.Asked.{Lending, lent_by}
-use Rattle.wtf_clients.specs.Keeping.{KeeperSpan, KeeperTurn}
-use Rattle.wtf_clients.specs.Named.{TablesBytes}
-use Rattle.wtf_clients.specs.Outcomes.{no_load, load_of}
-use Rattle.wtf_clients.specs.Serves.{NamesTables, IsPlain, ServesLine, ServesEvent}
-use Rattle.wtf_clients.specs.Sounds.{AreSound, IsAlike}
-use Rattle.wtf_clients.specs.Leaving.{LeavesAlone, SyncsNone}
-use Rattle.wtf_clients.specs.Seeing.{Seeing, seeing}
-use Rattle.wtf_clients.specs.ScanTurns.{PieceTurn, CollectTurn}
-use Rattle.wtf_clients.specs.Views.{TablesView}
-use Rattle.wtf_clients.proofs.Leaving.{leaves_none}
-use Rattle.wtf_core.specs.Ended.{LineMade, LineEnds}
-use Rattle.wtf_core.specs.Lent.{is_of_tables, TablesTurn, TablesTold, IsUnpunching, TablesLine, TablesDone}
-use Rattle.wtf_core.specs.Made.{IsCoreMade}
-use Rattle.wtf_core.specs.Promises.{IsLeftBy}
-use Rattle.wtf_core.specs.Remembering.{KeepsPunched}
-use Rattle.wtf_core.specs.Telling.{ServesTurn}
-use Rattle.wtf_core.specs.Turns.{takes_no_memory, LineTurn}
-use Rattle.wtf_core.specs.Views.{CoreView}
-use Rattle.wtf_core.proofs.Answering.{local_plain, put_plain, drop_plain, still_serves}
-use Rattle.wtf_core.proofs.Naming.{local_names, put_names, drop_names}
-use Rattle.wtf_core.proofs.Punching.{IsUncollecting, collect_keeps, none_keeps}
-use Rattle.wtf_core.proofs.Remembering.{sound_dev as lends_soundly, goes_keeps}
-use Rattle.wtf_core.proofs.Scanned.{scan_names, scan_plain, by_devices, piece_next, collect_goes}
-use Rattle.wtf_core.proofs.Telling.{begun_told, tried_told, aborted_told, put_told, drop_told}
+use Rattle.wtf_core.proofs.Common.{IsTrue, true≢false, Settings, Range, StoreKind, KindLaws, IsRing, is_down, SameSyncs, Span, Dev, Remembered, AreFrom}
+use Rattle.wtf_core.proofs.Common.{CacheInside, IsSoundDev, GoesOn, stores, remembered, between, inside_of, is_inside, goes_nowhere, any_slice, Answer, Event}
+use Rattle.wtf_core.proofs.Common.{Verb, Lending, lent_by, KeeperSpan, KeeperTurn, TablesBytes, no_load, load_of, NamesTables, IsPlain, ServesLine, ServesEvent}
+use Rattle.wtf_core.proofs.Common.{AreSound, IsAlike, LeavesAlone, SyncsNone, Seeing, seeing, PieceTurn, CollectTurn, TablesView, leaves_none, LineMade}
+use Rattle.wtf_core.proofs.Common.{LineEnds, is_of_tables, TablesTurn, TablesTold, IsUnpunching, TablesLine, TablesDone, IsCoreMade, IsLeftBy, KeepsPunched}
+use Rattle.wtf_core.proofs.Common.{ServesTurn, takes_no_memory, LineTurn, CoreView, ◌≡◌, ◌≢◌, ◌≤◌, ℕ, Bool, true, false, List, [], length, Result, Ok, Err}
+use Rattle.wtf_core.proofs.Common.{IfOk, OnOk, OnErr, IsOk, refl, sym, ap, ◌∙◌, subst, alike_same}
+use Rattle.wtf_core.proofs.{Answering.local_plain, Answering.drop_plain, Remembering.goes_keeps, Scanned.scan_names, Scanned.collect_goes, Telling.aborted_told}
+use Rattle.wtf_core.proofs.{Answering.put_plain, Punching.none_keeps, Scanned.scan_plain, Scanned.by_devices, Scanned.piece_next, Telling.begun_told}
+use Rattle.wtf_core.proofs.{Answering.still_serves, Naming.local_names, Punching.IsUncollecting, Punching.collect_keeps, Remembering.sound_dev as lends_soundly}
+use Rattle.wtf_core.proofs.{Naming.IsLocal, Naming.put_names, Naming.drop_names, Telling.tried_told, Telling.put_told, Telling.drop_told}
 
 -- ---- results
 pub if_both : {E : Type 0} (r : Result Answer E) {P Q R : Answer → Type 0} → IfOk r P → IfOk r Q → ((a : Answer) → P a → Q a → R a) → IfOk r R
 if_both (Ok a) p q both = both a p q
 if_both (Err why) p q both = tt
 
-if_all : {E : Type 0} (r : Result Answer E) {P Q R T : Answer → Type 0} → IfOk r P → IfOk r Q → IfOk r R → ((a : Answer) → P a → Q a → R a → T a)
-    → IfOk r T
+if_all : {E : Type 0} (r : Result Answer E) {P Q R T : Answer → Type 0} → IfOk r P → IfOk r Q → IfOk r R → ((a : Answer) → P a → Q a → R a → T a) → IfOk r T
 if_all (Ok a) p q t all = all a p q t
 if_all (Err why) p q t all = tt
 
@@ -83,15 +49,13 @@ either (Ok a) ok err on off = on a ok
 either (Err why) ok err on off = off err
 
 pub same_alike : (old new : TablesView) → new ≡ old → IsAlike old new
-same_alike old new is = subst (IsAlike old) (sym is) (record {
-  clients = refl;
-  number = refl;
-  map = refl;
-  versions = λ q. refl;
-  pins = λ n. refl;
-  next_tx = refl;
-  beside = refl;
-})
+same_alike old new is = subst (IsAlike old) (sym is) (alike_same old)
+
+-- what is done of a line is done of one that is the same
+pub done_as : {S E : Type 0} {kind : StoreKind S} {before after : Dev S} {old new : TablesView} {e f : Event} {r : Result Answer E} → e ≡ f
+    → TablesDone kind before after old new f r → TablesDone kind before after old new e r
+done_as {kind = kind} {before = before} {after = after} {old = old} {new = new} {r = r} is =
+    subst (λ (x : Event). TablesDone kind before after old new x r) (sym is)
 
 -- ---- what a line makes of the tables
 module _ {S : Type 0} (kind : StoreKind S) (before after : Dev S) (old new : TablesView) where
@@ -99,30 +63,25 @@ module _ {S : Type 0} (kind : StoreKind S) (before after : Dev S) (old new : Tab
   pub line_done : {E : Type 0} (e : Event) (r : Result Answer E) → IfOk r (TablesLine kind before after old new e) → OnErr r (IsLeftBy e old new)
       → OnErr r (GoesOn kind before after []) → LeavesAlone kind (between before after) (lent_by before after) old e
       → (IsTrue (takes_no_memory e) → IsOk r) → TablesDone kind before after old new e r
-  line_done e r line left goes leaves sure = record {
-    line = line;
-    lost = on_both r left goes (λ l g. record { left = l; goes = g });
-    leaves = leaves;
-    sure = sure;
-  }
+  line_done e r line left goes leaves sure =
+      record { line = line; lost = on_both r left goes (λ l g. record { left = l; goes = g }); leaves = leaves; sure = sure }
 
   -- one that is lent the stores, and says what it makes of them
   pub lent_done : {E : Type 0} (e : Event) (r : Result Answer E) → IfOk r (TablesTurn kind before after old new e)
       → IfOk r (ServesLine kind (between before after) (lent_by before after) old new e) → IfOk r (TablesTold kind before after old new e)
-      → (GoesOn kind before after [] → IsUnpunching kind before after old new e) → OnErr r (IsLeftBy e old new)
-      → LeavesAlone kind (between before after) (lent_by before after) old e
-      → GoesOn kind before after [] → takes_no_memory e ≡ false → TablesDone kind before after old new e r
+      → (GoesOn kind before after [] → IsUnpunching kind before after old new e) → OnErr r (IsLeftBy e old new) → LeavesAlone kind (between before after)
+      (lent_by before after) old e → GoesOn kind before after [] → takes_no_memory e ≡ false → TablesDone kind before after old new e r
   lent_done e r turn serves told unpunching left leaves goes memory = line_done e r
       (if_all r turn serves told (λ a t s l. record { turn = t; serves = s; told = l; goes = unpunching goes }))
       left (on_any r goes) leaves (λ none. absurd (true≢false (sym none ∙ memory)))
 
   -- a collection, which may punch
-  pub collect_done : {E : Type 0} (k : ℕ) (r : Result Answer E) → IfOk r (TablesTurn kind before after old new (event.Collect k))
-      → IfOk r (ServesLine kind (between before after) (lent_by before after) old new (event.Collect k)) → OnErr r (new ≡ old)
-      → OnErr r (GoesOn kind before after []) → LeavesAlone kind (between before after) (lent_by before after) old (event.Collect k)
-      → TablesDone kind before after old new (event.Collect k) r
+  pub collect_done : {E : Type 0} (k : ℕ) (r : Result Answer E) → IfOk r (TablesTurn kind before after old new (Event.Collect k))
+      → IfOk r (ServesLine kind (between before after) (lent_by before after) old new (Event.Collect k)) → OnErr r (new ≡ old)
+      → OnErr r (GoesOn kind before after []) → LeavesAlone kind (between before after) (lent_by before after) old (Event.Collect k)
+      → TablesDone kind before after old new (Event.Collect k) r
   collect_done k r turn serves same goes leaves =
-      line_done (event.Collect k) r (if_both r turn serves (λ a t s. record { turn = t; serves = s; told = tt; goes = tt }))
+      line_done (Event.Collect k) r (if_both r turn serves (λ a t s. record { turn = t; serves = s; told = tt; goes = tt }))
       (on_map r same (same_alike old new)) goes leaves (λ never. absurd (true≢false (sym never)))
 
 -- ---- one that is lent no store
@@ -131,9 +90,22 @@ module _ {S : Type 0} {kind : StoreKind S} (laws : KindLaws kind) (dev : Dev S) 
   abbrev here : Seeing
   here = seeing kind (between dev dev) (lent_by dev dev)
 
-  alone : (e : Event) (a : Answer) → load_of e ≡ no_load → NamesTables old new → IsPlain a
-      → ServesLine kind (between dev dev) (lent_by dev dev) old new e a
-  alone e a none names plain = still_serves kind (is_down dev.replicas.now) (stores dev) (lent_by dev dev) old new e a inside names none plain
+  -- a line that names no more, and is plain
+  lone_line : (e : Event) (a : Answer) → TablesTurn kind dev dev old new e a → load_of e ≡ no_load → NamesTables old new → IsPlain a
+      → TablesTold kind dev dev old new e a → (GoesOn kind dev dev [] → IsUnpunching kind dev dev old new e) → TablesLine kind dev dev old new e a
+  lone_line e a turn none names plain told goes = record {
+    turn = turn;
+    serves = still_serves kind (is_down dev.replicas.now) (stores dev) (lent_by dev dev) old new e a inside names none plain;
+    told = told;
+    goes = goes (goes_nowhere laws dev sound_dev);
+  }
+
+  local_line : (c : ℕ) (v : Verb) (a : Answer) → IsLocal v → load_of (Event.Client c v) ≡ no_load → TablesTurn kind dev dev old new (Event.Client c v) a
+      → (NamesTables old new → IsPlain a → TablesTold kind dev dev old new (Event.Client c v) a) → TablesLine kind dev dev old new (Event.Client c v) a
+  local_line c v a local none turn told =
+      let names = local_names here old new c v a local sound turn in
+      let plain = local_plain here old new c v a local turn in
+      lone_line (Event.Client c v) a turn none names plain (told names plain) (λ goes. goes)
 
   alone_done : {E : Type 0} (e : Event) (r : Result Answer E) → IfOk r (TablesLine kind dev dev old new e) → OnErr r (IsLeftBy e old new)
       → (IsTrue (takes_no_memory e) → IsOk r) → TablesDone kind dev dev old new e r
@@ -141,89 +113,48 @@ module _ {S : Type 0} {kind : StoreKind S} (laws : KindLaws kind) (dev : Dev S) 
       line_done kind dev dev old new e r line left (on_any r (goes_nowhere laws dev sound_dev))
       (leaves_none kind (is_down dev.replicas.now) (stores dev) dev.settings (remembered dev) old e) sure
 
-  begin_line : (c : ℕ) (a : Answer) → TablesTurn kind dev dev old new (event.Client c verb.Begin) a
-      → TablesLine kind dev dev old new (event.Client c verb.Begin) a
-  begin_line c a turn =
-      let names = local_names here old new c verb.Begin a tt sound turn in
-      let plain = local_plain here old new c verb.Begin a tt turn in
-      record {
-        turn = turn;
-        serves = alone (event.Client c verb.Begin) a refl names plain;
-        told = begun_told kind (is_down dev.replicas.now) (stores dev) dev.settings (remembered dev) old new c a sound names plain turn;
-        goes = goes_nowhere laws dev sound_dev;
-      }
+  pub begin_done : {E : Type 0} (c : ℕ) (r : Result Answer E) → IfOk r (TablesTurn kind dev dev old new (Event.Client c Verb.Begin))
+      → OnErr r (IsAlike old new) → TablesDone kind dev dev old new (Event.Client c Verb.Begin) r
+  begin_done c r turn left =
+      alone_done (Event.Client c Verb.Begin) r (if_some r turn (λ a made. local_line c Verb.Begin a tt refl made
+      (λ names plain. begun_told kind (is_down dev.replicas.now) (stores dev) dev.settings (remembered dev) old new c a sound names plain made)))
+      left (λ never. absurd (true≢false (sym never)))
 
-  pub begin_done : {E : Type 0} (c : ℕ) (r : Result Answer E) → IfOk r (TablesTurn kind dev dev old new (event.Client c verb.Begin))
-      → OnErr r (IsAlike old new) → TablesDone kind dev dev old new (event.Client c verb.Begin) r
-  begin_done c r turn left = alone_done (event.Client c verb.Begin) r (if_some r turn (begin_line c)) left (λ never. absurd (true≢false (sym never)))
+  pub try_done : {E : Type 0} (c : ℕ) (r : Result Answer E) → IfOk r (TablesTurn kind dev dev old new (Event.Client c Verb.Try))
+      → OnErr r (IsAlike old new) → TablesDone kind dev dev old new (Event.Client c Verb.Try) r
+  try_done c r turn left =
+      alone_done (Event.Client c Verb.Try) r (if_some r turn (λ a made. local_line c Verb.Try a tt refl made
+      (λ names plain. tried_told kind (is_down dev.replicas.now) (stores dev) dev.settings (remembered dev) old new c a sound names plain made)))
+      left (λ never. absurd (true≢false (sym never)))
 
-  try_line : (c : ℕ) (a : Answer) → TablesTurn kind dev dev old new (event.Client c verb.Try) a
-      → TablesLine kind dev dev old new (event.Client c verb.Try) a
-  try_line c a turn =
-      let names = local_names here old new c verb.Try a tt sound turn in
-      let plain = local_plain here old new c verb.Try a tt turn in
-      record {
-        turn = turn;
-        serves = alone (event.Client c verb.Try) a refl names plain;
-        told = tried_told kind (is_down dev.replicas.now) (stores dev) dev.settings (remembered dev) old new c a sound names plain turn;
-        goes = goes_nowhere laws dev sound_dev;
-      }
+  pub abort_done : {E : Type 0} (c : ℕ) (r : Result Answer E) → IfOk r (λ a. TablesTurn kind dev dev old new (Event.Client c Verb.Abort) a) → IsOk r
+      → TablesDone kind dev dev old new (Event.Client c Verb.Abort) r
+  abort_done c r turn ok =
+      alone_done (Event.Client c Verb.Abort) r (if_some r turn (λ a made. local_line c Verb.Abort a tt refl made
+      (λ names plain. aborted_told kind (is_down dev.replicas.now) (stores dev) dev.settings (remembered dev) old new c a sound names plain made)))
+      (no_err r _ ok) (λ yes. ok)
 
-  pub try_done : {E : Type 0} (c : ℕ) (r : Result Answer E) → IfOk r (TablesTurn kind dev dev old new (event.Client c verb.Try))
-      → OnErr r (IsAlike old new) → TablesDone kind dev dev old new (event.Client c verb.Try) r
-  try_done c r turn left = alone_done (event.Client c verb.Try) r (if_some r turn (try_line c)) left (λ never. absurd (true≢false (sym never)))
+  pub put_done : {E : Type 0} (j : ℕ) (r : Result Answer E) → IfOk r (λ a. TablesTurn kind dev dev old new (Event.Put j) a)
+      → OnErr r (IsAlike old new) → TablesDone kind dev dev old new (Event.Put j) r
+  put_done j r turn left =
+      alone_done (Event.Put j) r (if_some r turn (λ a made. lone_line (Event.Put j) a made refl (put_names old new j sound a made.0)
+      (put_plain old new j a made.0) (put_told kind (is_down dev.replicas.now) (stores dev) dev.settings (remembered dev) old new j a sound made.0)
+      (λ goes. goes)))
+      left (λ never. absurd (true≢false (sym never)))
 
-  abort_line : (c : ℕ) (a : Answer) → TablesTurn kind dev dev old new (event.Client c verb.Abort) a
-      → TablesLine kind dev dev old new (event.Client c verb.Abort) a
-  abort_line c a turn =
-      let names = local_names here old new c verb.Abort a tt sound turn in
-      let plain = local_plain here old new c verb.Abort a tt turn in
-      record {
-        turn = turn;
-        serves = alone (event.Client c verb.Abort) a refl names plain;
-        told = aborted_told kind (is_down dev.replicas.now) (stores dev) dev.settings (remembered dev) old new c a sound names plain turn;
-        goes = goes_nowhere laws dev sound_dev;
-      }
+  pub drop_done : {E : Type 0} (j : ℕ) (r : Result Answer E) → IfOk r (λ a. TablesTurn kind dev dev old new (Event.DropJob j) a) → IsOk r
+      → TablesDone kind dev dev old new (Event.DropJob j) r
+  drop_done j r turn ok =
+      alone_done (Event.DropJob j) r (if_some r turn (λ a made. lone_line (Event.DropJob j) a made refl (drop_names old new j sound a made.0)
+      (drop_plain old new j a made.0) (drop_told kind (is_down dev.replicas.now) (stores dev) dev.settings (remembered dev) old new j a sound made.0)
+      (λ goes. goes)))
+      (no_err r _ ok) (λ yes. ok)
 
-  pub abort_done : {E : Type 0} (c : ℕ) (r : Result Answer E) → IfOk r (λ a. TablesTurn kind dev dev old new (event.Client c verb.Abort) a) → IsOk r
-      → TablesDone kind dev dev old new (event.Client c verb.Abort) r
-  abort_done c r turn ok = alone_done (event.Client c verb.Abort) r (if_some r turn (abort_line c)) (no_err r _ ok) (λ yes. ok)
-
-  put_line : (j : ℕ) (a : Answer) → TablesTurn kind dev dev old new (event.Put j) a → TablesLine kind dev dev old new (event.Put j) a
-  put_line j a turn = record {
-    turn = turn;
-    serves = alone (event.Put j) a refl (put_names old new j sound a turn.0) (put_plain old new j a turn.0);
-    told = put_told kind (is_down dev.replicas.now) (stores dev) dev.settings (remembered dev) old new j a sound turn.0;
-    goes = goes_nowhere laws dev sound_dev;
-  }
-
-  pub put_done : {E : Type 0} (j : ℕ) (r : Result Answer E) → IfOk r (λ a. TablesTurn kind dev dev old new (event.Put j) a)
-      → OnErr r (IsAlike old new) → TablesDone kind dev dev old new (event.Put j) r
-  put_done j r turn left = alone_done (event.Put j) r (if_some r turn (put_line j)) left (λ never. absurd (true≢false (sym never)))
-
-  drop_line : (j : ℕ) (a : Answer) → TablesTurn kind dev dev old new (event.DropJob j) a → TablesLine kind dev dev old new (event.DropJob j) a
-  drop_line j a turn = record {
-    turn = turn;
-    serves = alone (event.DropJob j) a refl (drop_names old new j sound a turn.0) (drop_plain old new j a turn.0);
-    told = drop_told kind (is_down dev.replicas.now) (stores dev) dev.settings (remembered dev) old new j a sound turn.0;
-    goes = goes_nowhere laws dev sound_dev;
-  }
-
-  pub drop_done : {E : Type 0} (j : ℕ) (r : Result Answer E) → IfOk r (λ a. TablesTurn kind dev dev old new (event.DropJob j) a) → IsOk r
-      → TablesDone kind dev dev old new (event.DropJob j) r
-  drop_done j r turn ok = alone_done (event.DropJob j) r (if_some r turn (drop_line j)) (no_err r _ ok) (λ yes. ok)
-
-  scan_line : (a : Answer) → TablesTurn kind dev dev old new event.Scan a → TablesLine kind dev dev old new event.Scan a
-  scan_line a turn = record {
-    turn = turn;
-    serves = alone event.Scan a refl (scan_names kind (stores dev) old new sound a turn.0) (scan_plain kind (stores dev) old new sound a turn.0);
-    told = tt;
-    goes = goes_nowhere laws dev sound_dev;
-  }
-
-  pub scan_done : {E : Type 0} (r : Result Answer E) → IfOk r (λ a. TablesTurn kind dev dev old new event.Scan a)
-      → OnErr r (IsAlike old new) → TablesDone kind dev dev old new event.Scan r
-  scan_done r turn left = alone_done event.Scan r (if_some r turn scan_line) left (λ never. absurd (true≢false (sym never)))
+  pub scan_done : {E : Type 0} (r : Result Answer E) → IfOk r (λ a. TablesTurn kind dev dev old new Event.Scan a)
+      → OnErr r (IsAlike old new) → TablesDone kind dev dev old new Event.Scan r
+  scan_done r turn left =
+      alone_done Event.Scan r (if_some r turn (λ a made. lone_line Event.Scan a made refl (scan_names kind (stores dev) old new sound a made.0)
+      (scan_plain kind (stores dev) old new sound a made.0) tt (λ goes. goes))) left (λ never. absurd (true≢false (sym never)))
 
 -- ---- what a core makes of it that lent all this
 module _ {S : Type 0} {kind : StoreKind S} (laws : KindLaws kind) (before after : Dev S) (old new : TablesView) (closed : Bool) (sound : AreSound old)
@@ -238,18 +169,8 @@ module _ {S : Type 0} {kind : StoreKind S} (laws : KindLaws kind) (before after 
 
   -- what was lent goes on, with ranges that a collection punched
   pub line_goes : (e : Event) (a : Answer) → TablesLine kind before after old new e a → (ranges : List (ℕ × Range)) × GoesOn kind before after ranges
-  line_goes (event.Collect k) a l = collect_goes laws before after sound_dev old new k a l.turn
-  line_goes (event.Client c v) a l = ([], l.goes)
-  line_goes (event.Plan j job p r) a l = ([], l.goes)
-  line_goes (event.Put j) a l = ([], l.goes)
-  line_goes (event.DropJob j) a l = ([], l.goes)
-  line_goes event.Scan a l = ([], l.goes)
-  line_goes (event.Piece n) a l = ([], l.goes)
-  line_goes (event.Dump p) a l = ([], l.goes)
-  line_goes (event.Down k) a l = ([], l.goes)
-  line_goes (event.Up k) a l = ([], l.goes)
-  line_goes event.Tree a l = ([], l.goes)
-  line_goes event.Save a l = ([], l.goes)
+  line_goes (Event.Collect k) a l = collect_goes laws before after sound_dev old new k a l.turn
+  line_goes e a l = ([], l.goes)
 
   -- lists that stay
   abbrev with_lists : Remembered → CoreView
@@ -260,33 +181,29 @@ module _ {S : Type 0} {kind : StoreKind S} (laws : KindLaws kind) (before after 
 
   line_turn : (e : Event) (a : Answer) → after.settings ≡ before.settings → TablesTurn kind before after old new e a
       → LineTurn kind (between before after) lender left e a
-  line_turn (event.Client c v) a same h = (h, refl)
-  line_turn (event.Plan j job p r) a same h = (h, refl)
-  line_turn (event.Put j) a same h = (h.0, rest_is h.1)
-  line_turn (event.DropJob j) a same h = (h.0, rest_is h.1)
-  line_turn event.Scan a same h = (h.0, rest_is h.1)
-  line_turn (event.Piece n) a same h =
+  line_turn (Event.Client c v) a same h = (h, refl)
+  line_turn (Event.Plan j job p r) a same h = (h, refl)
+  line_turn (Event.Put j) a same h = (h.0, rest_is h.1)
+  line_turn (Event.DropJob j) a same h = (h.0, rest_is h.1)
+  line_turn Event.Scan a same h = (h.0, rest_is h.1)
+  line_turn (Event.Piece n) a same h =
       (by_devices kind before after lender left (λ b c. PieceTurn kind b c old new n a) refl same refl ring sound_dev refl refl h, refl)
-  line_turn (event.Collect k) a same h =
+  line_turn (Event.Collect k) a same h =
       (by_devices kind before after lender left (λ b c. CollectTurn kind b c old new k a) refl same refl ring sound_dev refl refl h, refl)
-  line_turn (event.Dump p) a same h = (h, refl)
+  line_turn (Event.Dump p) a same h = (h, refl)
   line_turn e a same h = absurd h
 
   line_told : (e : Event) (a : Answer) → TablesLine kind before after old new e a → ServesTurn kind (between before after) lender left e a
-  line_told event.Scan a l = tt
-  line_told (event.Piece n) a l = λ tells.
+  line_told (Event.Piece n) a l = λ tells.
       let next = piece_next laws before after l.goes old new sound tells n a l.turn in
       record { reads = l.told tells; next = next.0; safe = next.1 }
-  line_told (event.Collect k) a l = tt
-  line_told (event.Client c v) a l = l.told
-  line_told (event.Plan j job p r) a l = l.told
-  line_told (event.Put j) a l = l.told
-  line_told (event.DropJob j) a l = l.told
-  line_told (event.Dump p) a l = l.told
-  line_told (event.Down k) a l = tt
-  line_told (event.Up k) a l = tt
-  line_told event.Tree a l = tt
-  line_told event.Save a l = absurd l.turn
+  line_told (Event.Client c v) a l = l.told
+  line_told (Event.Plan j job p r) a l = l.told
+  line_told (Event.Put j) a l = l.told
+  line_told (Event.DropJob j) a l = l.told
+  line_told (Event.Dump p) a l = l.told
+  line_told Event.Save a l = absurd l.turn
+  line_told e a l = tt
 
   -- a line that punches nothing
   none_punched : (e : Event) (a : Answer) → IsUncollecting e → LineTurn kind (between before after) lender left e a → GoesOn kind before after []
@@ -296,15 +213,12 @@ module _ {S : Type 0} {kind : StoreKind S} (laws : KindLaws kind) (before after 
 
   line_punched : (e : Event) (a : Answer) → TablesLine kind before after old new e a → LineTurn kind (between before after) lender left e a
       → KeepsPunched kind (stores before) (stores after) lender left e a
-  line_punched (event.Collect k) a l turn = collect_keeps laws before after sound_dev lender left k refl refl refl refl a l.turn
-  line_punched (event.Client c v) a l turn = none_punched (event.Client c v) a tt turn l.goes
-  line_punched (event.Plan j job p r) a l turn = none_punched (event.Plan j job p r) a tt turn l.goes
-  line_punched (event.Put j) a l turn = none_punched (event.Put j) a tt turn l.goes
-  line_punched (event.DropJob j) a l turn = none_punched (event.DropJob j) a tt turn l.goes
-  line_punched event.Scan a l turn = none_punched event.Scan a tt turn l.goes
-  line_punched (event.Piece n) a l turn = none_punched (event.Piece n) a tt turn l.goes
-  line_punched (event.Dump p) a l turn = none_punched (event.Dump p) a tt turn l.goes
-  line_punched e a l turn = absurd l.turn
+  line_punched (Event.Collect k) a l turn = collect_keeps laws before after sound_dev lender left k refl refl refl refl a l.turn
+  line_punched (Event.Down k) a l turn = absurd l.turn
+  line_punched (Event.Up k) a l turn = absurd l.turn
+  line_punched Event.Tree a l turn = absurd l.turn
+  line_punched Event.Save a l turn = absurd l.turn
+  line_punched e a l turn = none_punched e a tt turn l.goes
 
   pub line_made : (e : Event) (a : Answer) → TablesLine kind before after old new e a → LineMade kind (between before after) lender left e a
   line_made e a l =
@@ -317,7 +231,7 @@ module _ {S : Type 0} {kind : StoreKind S} (laws : KindLaws kind) (before after 
 
   -- a line of the tables syncs nothing
   unsynced : (e : Event) → is_of_tables e ≡ true → SyncsNone kind (between before after) e → SameSyncs kind (stores before) (stores after)
-  unsynced event.Save is h = absurd (true≢false (sym is))
+  unsynced Event.Save is h = absurd (true≢false (sym is))
   unsynced e is h = h
 
   -- with any result
@@ -369,25 +283,21 @@ module _ {S : Type 0} {kind : StoreKind S} (laws : KindLaws kind) {before after 
 -- a line of the tables hands a keeper nothing, and fails to save nothing
 pub line_serves : {S : Type 0} (kind : StoreKind S) (t : Span S) (lent : Lending) (rose : Type 0) (old new : TablesView) (e : Event) (a : Answer)
     → is_of_tables e ≡ true → ServesLine kind t lent old new e a → ServesEvent kind t lent rose (old, new) e a
-line_serves kind t lent rose old new (event.Client c v) a is h = h
-line_serves kind t lent rose old new (event.Plan j job p r) a is h = h
-line_serves kind t lent rose old new (event.Put j) a is h = h
-line_serves kind t lent rose old new (event.DropJob j) a is h = h
-line_serves kind t lent rose old new event.Scan a is h = h
-line_serves kind t lent rose old new (event.Piece n) a is h = h
-line_serves kind t lent rose old new (event.Collect k) a is h = h
-line_serves kind t lent rose old new (event.Dump p) a is h = h
-line_serves kind t lent rose old new e a is h = absurd (true≢false (sym is))
+line_serves kind t lent rose old new (Event.Down k) a is h = absurd (true≢false (sym is))
+line_serves kind t lent rose old new (Event.Up k) a is h = absurd (true≢false (sym is))
+line_serves kind t lent rose old new Event.Tree a is h = absurd (true≢false (sym is))
+line_serves kind t lent rose old new Event.Save a is h = absurd (true≢false (sym is))
+line_serves kind t lent rose old new e a is h = h
 
 pub line_untouched : {S : Type 0} (kind : StoreKind S) (t : Span S) (k : KeeperSpan) (settings : Settings) (old new : TablesView) (e : Event) (a : Answer)
     → is_of_tables e ≡ true → k.untouched → KeeperTurn kind t k settings old new e a
-line_untouched kind t k settings old new event.Save a is same = absurd (true≢false (sym is))
+line_untouched kind t k settings old new Event.Save a is same = absurd (true≢false (sym is))
 line_untouched kind t k settings old new e a is same = same
 
 -- what is not one of the other lines
-pub of_tables : (e : Event) → ((k : ℕ) → e ≢ event.Down k) → ((k : ℕ) → e ≢ event.Up k) → e ≢ event.Tree → e ≢ event.Save → is_of_tables e ≡ true
-of_tables (event.Down k) down up tree save = absurd (down k refl)
-of_tables (event.Up k) down up tree save = absurd (up k refl)
-of_tables event.Tree down up tree save = absurd (tree refl)
-of_tables event.Save down up tree save = absurd (save refl)
+pub of_tables : (e : Event) → ((k : ℕ) → e ≢ Event.Down k) → ((k : ℕ) → e ≢ Event.Up k) → e ≢ Event.Tree → e ≢ Event.Save → is_of_tables e ≡ true
+of_tables (Event.Down k) down up tree save = absurd (down k refl)
+of_tables (Event.Up k) down up tree save = absurd (up k refl)
+of_tables Event.Tree down up tree save = absurd (tree refl)
+of_tables Event.Save down up tree save = absurd (save refl)
 of_tables e down up tree save = refl

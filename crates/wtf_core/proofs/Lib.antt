@@ -1,15 +1,14 @@
+pub mod Common
 pub mod Machines
 pub mod Ending
 pub mod Plain
 pub mod Lines
 pub mod SaveLaws
-pub mod SaveLines
 pub mod Moves
 pub mod Holding
 pub mod Picturing
 pub mod RowsSorted
 pub mod RowsWalk
-pub mod RowsShown
 pub mod JobLines
 pub mod Whole
 pub mod Started
@@ -40,4 +39,3 @@ pub mod Lent
 pub mod Ends
 pub mod Quieting
 pub mod Watching
-pub mod Copying

@@ -1,32 +1,11 @@
 -- Each line of a client keeps the tables sound, and is the machine's.
 -- NSDI 2016, sections 2.6 and 2.7.
-use Rattle.std.proofs.Common.{◌≡◌, ℕ, Bool, true, false, List, length, Option, None, Some, refl, sym, ap, ◌∙◌, subst, ⊎_elim}
-use Rattle.std.specs.Prelude.{if◌then◌else◌, nat_le, nat_eq, MatchOption}
-use Rattle.std.specs.FinMap.{get}
-use Rattle.wtf_model.specs.declared.limits.TheConstants.{MAX_LOGGED}
-use Rattle.wtf_model.specs.declared.answer.Answer.{Answer}
-use Rattle.wtf_model.specs.declared.answer.Answer.TheVariants as answer
-use Rattle.wtf_model.specs.declared.answer.Word.{Word}
-use Rattle.wtf_model.specs.declared.answer.Word.TheVariants.{Replaying, Full, InTx, NoTx, Live}
-use Rattle.wtf_model.specs.declared.op.Op.{Op}
-use Rattle.wtf_model.specs.declared.event.Verb.{Verb}
-use Rattle.wtf_model.specs.declared.event.Verb.TheVariants as verb
-use Rattle.wtf_model.specs.Transaction.{Transaction}
-use Rattle.wtf_model.specs.Machines.{Machine, is_live as is_live_txn, is_full as is_full_txn}
-use Rattle.wtf_model.specs.Lawful.{client_refusal, MayClient}
-use Rattle.wtf_model.specs.Steps.{is_call_refusal, tried, stepped, called, with_transaction, logged, after_client}
-use Rattle.wtf_log.proofs.StandingLaws.{OpsStandFor-length}
-use Rattle.wtf_meta.specs.Contents.{Told}
-use Rattle.wtf_meta.proofs.Telling.{TellsOn}
-use Rattle.wtf_replay.specs.Views.{TxnView, is_txn_live, is_full}
-use Rattle.wtf_replay.specs.Refusals.{call_refusal, try_refusal, step_refusal}
-use Rattle.wtf_replay.specs.Sounds.{tells_slice}
-use Rattle.wtf_clients.specs.Views.{TablesView, of_client}
-use Rattle.wtf_clients.specs.Seeing.{Seeing}
-use Rattle.wtf_clients.specs.Sounds.{AreSound}
-use Rattle.wtf_clients.specs.Standing.{StandsForTxn, StandsForSlot, TablesStand}
-use Rattle.wtf_clients.specs.Turns.{AreTrue, Refuses, LoneTurn, TxnTurn, ClientTurn}
-use Rattle.wtf_core.specs.Standing.{IsSmall}
+use Rattle.wtf_core.proofs.Common.{if◌then◌else◌, nat_le, nat_eq, MatchOption, get, MAX_LOGGED, Answer, Word, Replaying, Full, InTx, NoTx, Live, Op, Verb}
+use Rattle.wtf_core.proofs.Common.{Transaction, Machine, client_refusal, MayClient, is_call_refusal, tried, stepped, called, with_transaction, logged}
+use Rattle.wtf_core.proofs.Common.{after_client, OpsStandFor-length, Told, TellsOn, TxnView, is_txn_live, is_full, call_refusal, try_refusal, step_refusal}
+use Rattle.wtf_core.proofs.Common.{tells_slice, TablesView, of_client, Seeing, AreSound, StandsForTxn, StandsForSlot, TablesStand, AreTrue, Refuses, LoneTurn}
+use Rattle.wtf_core.proofs.Common.{TxnTurn, ClientTurn, IsSmall, ◌≡◌, ℕ, Bool, true, false, List, length, Option, None, Some, refl, sym, ap, ◌∙◌, subst, ⊎_elim}
+use Rattle.wtf_model.specs.Machines.{is_live as is_live_txn, is_full as is_full_txn}
 use Rattle.wtf_core.proofs.Plain.{refuses_stand, begins_stand, calls_stand, fails_stand, aborts_stand}
 use Rattle.wtf_core.proofs.Ending.{tries_stand, steps_stand, finals_stand}
 
@@ -44,13 +23,13 @@ module _ (size : ℕ) (told : Told) (old : TablesView) (m : Machine) (x : TxnVie
   full_is = ap (λ n. nat_le MAX_LOGGED n) count_is
 
   -- and an attempt, a step and a call are refused by both with one word, or by neither
-  try_is : try_refusal x ≡ client_refusal (Some t) verb.Try
+  try_is : try_refusal x ≡ client_refusal (Some t) Verb.Try
   try_is = ap (λ b. if b then None else Some Replaying) live_is
 
-  step_is : step_refusal x ≡ client_refusal (Some t) verb.Step
+  step_is : step_refusal x ≡ client_refusal (Some t) Verb.Step
   step_is = ap (λ b. if b then Some Live else None) live_is
 
-  call_is : (o : Op (List ℕ)) → call_refusal x ≡ client_refusal (Some t) (verb.Call o)
+  call_is : (o : Op (List ℕ)) → call_refusal x ≡ client_refusal (Some t) (Verb.Call o)
   call_is o = ap (λ b. if b then (if is_full x then Some Full else None) else Some Replaying) live_is
       ∙ ap (λ b. if is_live_txn t then (if b then Some Full else None) else Some Replaying) full_is
 
@@ -61,10 +40,9 @@ own_word true false w is = absurd (cc)
 own_word false full w is = let same : Replaying ≡ w = cc in subst (λ u. is_call_refusal u ≡ false) same refl
 
 -- and the machine is then as it was
-not_logged : (m : Machine) (c : ℕ) (t : Transaction) (o : Op (List ℕ)) (a : Answer) (w : Word) → a ≡ answer.Refused w → is_call_refusal w ≡ false
+not_logged : (m : Machine) (c : ℕ) (t : Transaction) (o : Op (List ℕ)) (a : Answer) (w : Word) → a ≡ Answer.Refused w → is_call_refusal w ≡ false
     → called m c t o a ≡ m
-not_logged m c t o a w is own =
-    ap (λ r. called m c t o r) is ∙ ap (λ b. if b then with_transaction m c (logged t o (answer.Refused w)) else m) own
+not_logged m c t o a w is own = ap (λ r. called m c t o r) is ∙ ap (λ b. if b then with_transaction m c (logged t o (Answer.Refused w)) else m) own
 
 module _ (z : Seeing) (old new : TablesView) (m : Machine) (c : ℕ) (sound : AreSound old)
     (region : m.settings.region ≡ z.size) (count : m.settings.servers ≡ z.servers) (small : IsSmall m)
@@ -79,43 +57,38 @@ module _ (z : Seeing) (old new : TablesView) (m : Machine) (c : ℕ) (sound : Ar
 
   -- a line is refused by both, or by none
   stands_or : (r q : Option Word) (P Q : Type 0) (a : Answer) (after : Machine) → r ≡ q → (r ≡ None → P → Q × TablesStand z.size z.later new after)
-      → ((w : Word) → r ≡ Some w → a ≡ answer.Refused w → after ≡ m)
-      → MatchOption r P (λ w. Refuses old new c w a) → MatchOption q Q (λ w. a ≡ answer.Refused w) × TablesStand z.size z.later new after
+      → ((w : Word) → r ≡ Some w → a ≡ Answer.Refused w → after ≡ m)
+      → MatchOption r P (λ w. Refuses old new c w a) → MatchOption q Q (λ w. a ≡ Answer.Refused w) × TablesStand z.size z.later new after
   stands_or None q P Q a after same f g turn =
       let both = f refl turn in
-      (subst (λ z. MatchOption z Q (λ w. a ≡ answer.Refused w)) same both.0, both.1)
+      (subst (λ z. MatchOption z Q (λ w. a ≡ Answer.Refused w)) same both.0, both.1)
   stands_or (Some w) q P Q a after same f g turn = (
-    subst (λ z. MatchOption z Q (λ v. a ≡ answer.Refused v)) same turn.answer,
+    subst (λ z. MatchOption z Q (λ v. a ≡ Answer.Refused v)) same turn.answer,
     subst (λ u. TablesStand z.size z.later new u) (sym (g w refl turn.answer)) (refused w a turn),
   )
 
   -- a line of a client without a transaction
   lone_stands : (v : Verb) (a : Answer) → of_client old.clients c ≡ None → LoneTurn z old new c v a → Client None v a
-  lone_stands verb.Begin a here turn = begins_stand old new c a sound here turn z.size z.told z.later m st on
-  lone_stands verb.Try a here turn = (turn.answer, refused NoTx a turn)
-  lone_stands verb.Step a here turn = (turn.answer, refused NoTx a turn)
-  lone_stands verb.Commit a here turn = (turn.answer, refused NoTx a turn)
-  lone_stands verb.Abort a here turn = (turn.answer, refused NoTx a turn)
-  lone_stands (verb.Call o) a here turn = (turn.answer, refused NoTx a turn)
+  lone_stands Verb.Begin a here turn = begins_stand old new c a sound here turn z.size z.told z.later m st on
+  lone_stands e a here turn = (turn.answer, refused NoTx a turn)
 
   -- a line of a client with one, for which the machine has one too
   txn_stands : (x : TxnView) (t : Transaction) (v : Verb) (a : Answer) → of_client old.clients c ≡ Some x → get m.transactions c ≡ Some t
-      → StandsForTxn z.size z.told old.kv m.now x t
-      → TxnTurn z old new c x v a → Client (Some t) v a
-  txn_stands x t verb.Begin a here there txn turn = (turn.answer, refused InTx a turn)
-  txn_stands x t verb.Try a here there txn turn = stands_or (try_refusal x) (client_refusal (Some t) verb.Try) _ _ a (tried m c t a)
+      → StandsForTxn z.size z.told old.kv m.now x t → TxnTurn z old new c x v a → Client (Some t) v a
+  txn_stands x t Verb.Begin a here there txn turn = (turn.answer, refused InTx a turn)
+  txn_stands x t Verb.Try a here there txn turn = stands_or (try_refusal x) (client_refusal (Some t) Verb.Try) _ _ a (tried m c t a)
       (try_is z.size z.told old m x t txn)
       (λ asked tries. tries_stand z.size z.told z.later old new m c x t a sound region small st on here there asked tries)
       (λ w is e. ap (λ r. tried m c t r) e) turn
-  txn_stands x t verb.Step a here there txn turn =
-      stands_or (step_refusal x) (client_refusal (Some t) verb.Step) _ _ a (stepped m c t a) (step_is z.size z.told old m x t txn)
+  txn_stands x t Verb.Step a here there txn turn =
+      stands_or (step_refusal x) (client_refusal (Some t) Verb.Step) _ _ a (stepped m c t a) (step_is z.size z.told old m x t txn)
       (λ asked steps. steps_stand z old new m c x t a sound region count st on here there asked telling steps)
       (λ w is e. ap (λ r. stepped m c t r) e) turn
-  txn_stands x t verb.Commit a here there txn turn = finals_stand z old new m c x t a sound region count small st on here there
+  txn_stands x t Verb.Commit a here there txn turn = finals_stand z old new m c x t a sound region count small st on here there
       telling turn
-  txn_stands x t verb.Abort a here there txn turn = aborts_stand old new c x a sound here turn z.size z.told z.later m t st on
-  txn_stands x t (verb.Call o) a here there txn turn =
-      stands_or (call_refusal x) (client_refusal (Some t) (verb.Call o)) _ _ a (called m c t o a) (call_is z.size z.told old m x t txn o)
+  txn_stands x t Verb.Abort a here there txn turn = aborts_stand old new c x a sound here turn z.size z.told z.later m t st on
+  txn_stands x t (Verb.Call o) a here there txn turn =
+      stands_or (call_refusal x) (client_refusal (Some t) (Verb.Call o)) _ _ a (called m c t o a) (call_is z.size z.told old m x t txn o)
       (λ asked t2. ⊎_elim
       (λ calls. calls_stand z old new c x o a sound here calls m t region st on there asked telling)
       (λ fails. fails_stand z old new c x o a sound here fails m t region count st on there asked) t2)
@@ -123,8 +96,7 @@ module _ (z : Seeing) (old new : TablesView) (m : Machine) (c : ℕ) (sound : Ar
 
   -- a line of either; no client has one in the tables alone, or in the machine alone
   slot_stands : (s : Option TxnView) (o : Option Transaction) (v : Verb) (a : Answer) → of_client old.clients c ≡ s → get m.transactions c ≡ o
-      → StandsForSlot z.size z.told old.kv m.now s o
-      → MatchOption s (LoneTurn z old new c v a) (λ x. TxnTurn z old new c x v a) →
+      → StandsForSlot z.size z.told old.kv m.now s o → MatchOption s (LoneTurn z old new c v a) (λ x. TxnTurn z old new c x v a) →
       Client o v a
   slot_stands None None v a here there slot turn = lone_stands v a here turn
   slot_stands None (Some t) v a here there slot turn = absurd slot
@@ -137,8 +109,7 @@ pub client_stands : (z : Seeing) (old new : TablesView) (m : Machine) (c : ℕ) 
     → AreSound old → m.settings.region ≡ z.size → m.settings.servers ≡ z.servers → IsSmall m → TablesStand z.size z.told old m
     → TellsOn z.told z.later → z.telling × AreTrue z.size
     z.told z.lists old
-    → ClientTurn z old new c v a
-    → MayClient m (get m.transactions c) v a × TablesStand z.size z.later new (after_client m c (get m.transactions c) v a)
+    → ClientTurn z old new c v a → MayClient m (get m.transactions c) v a × TablesStand z.size z.later new (after_client m c (get m.transactions c) v a)
 client_stands z old new m c v a sound region count small st on telling turn =
     let slot = st.each c in slot_stands z old new m c sound region count small st on telling (of_client old.clients c) (get m.transactions c) v a
     refl refl slot turn

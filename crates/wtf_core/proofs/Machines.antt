@@ -1,17 +1,7 @@
 -- The machine's open transactions and jobs where one has gone, and its answers to the first calls.
-use Rattle.std.proofs.Common.{◌≡◌, ◌≢◌, suc, zero, ℕ, ◌*◌, List, [], ◌∷◌, take, None, refl, sym, ap, ◌∙◌, slice_get}
-use Rattle.std.proofs.lemmas.Bool.{eq-eqb, ne_eqb, cond-true, cond-false}
-use Rattle.std.specs.FinMap.{FinMap, get, remove, get-remove}
-use Rattle.std.specs.Ordering.{nat_cmp}
-use Rattle.std.specs.Cmp.{nat_cmp_total, unsigned_tied}
-use Rattle.wtf_model.specs.declared.limits.TheConstants.{MAX_REGIONS}
-use Rattle.wtf_model.specs.declared.answer.Answer.{Answer}
-use Rattle.wtf_model.specs.declared.op.Op.{Op}
-use Rattle.wtf_model.specs.Session.{fresh}
-use Rattle.wtf_model.specs.Tree.{Tree}
-use Rattle.wtf_model.specs.Transaction.{answers_of}
-use Rattle.wtf_model.specs.Machines.{Machine, cap_of}
-use Rattle.wtf_replay.proofs.Deviating.{answers_from-take}
+use Rattle.wtf_core.proofs.Common.{eq-eqb, ne_eqb, cond-true, cond-false, FinMap, get, remove, get-remove, nat_cmp, nat_cmp_total, unsigned_tied, MAX_REGIONS}
+use Rattle.wtf_core.proofs.Common.{Answer, Op, fresh, Tree, answers_of, Machine, cap_of, answers_from-take, ◌≡◌, ◌≢◌, suc, zero, ℕ, ◌*◌, List, [], ◌∷◌, take}
+use Rattle.wtf_core.proofs.Common.{None, refl, sym, ap, ◌∙◌, slice_get}
 
 -- what was taken out is there no more
 pub gone_here : {X : Type 0} (ones : FinMap nat_cmp X) (c : ℕ) → get (remove ones c) c ≡ None

@@ -1,30 +1,9 @@
 -- Marks of scans, and what was freed, lie in the files over each line.
-use Rattle.std.proofs.Common.{◌≡◌, ◌≤◌, ℕ, Bool, true, false, cond, nat_eq, nat_lt, List, Option, Some, sym, subst, arith}
-use Rattle.wtf_dev.specs.Each.{EachFollows}
-use Rattle.wtf_dev.specs.Store.{Range, StoreKind, KindLaws}
-use Rattle.wtf_replica.specs.Inside.{size_in}
-use Rattle.wtf_replica.specs.Spans.{Span}
-use Rattle.wtf_region.specs.declared.dev.Dev.{Dev}
-use Rattle.wtf_model.specs.declared.answer.Answer.{Answer}
-use Rattle.wtf_model.specs.declared.answer.Answer.TheVariants as answer
-use Rattle.wtf_model.specs.declared.answer.Word.TheVariants.{ScanBusy, NoScan}
-use Rattle.wtf_model.specs.declared.event.Event.{Event}
-use Rattle.wtf_model.specs.declared.event.Event.TheVariants as event
-use Rattle.wtf_gc.specs.declared.extent.Extent.{Extent}
-use Rattle.wtf_gc.specs.Scans.{run_on, with_run, with_finished}
-use Rattle.wtf_gc.specs.Views.{RunView, GcView, length_in}
-use Rattle.wtf_clients.specs.Safe.{scan_of, AreUpto, LieIn}
-use Rattle.wtf_clients.specs.ScanTurns.{ScanTurn, StartsTurn, PieceTurn, PieceFails, DoesTurn}
-use Rattle.wtf_clients.specs.Sounds.{AreSound}
-use Rattle.wtf_clients.specs.Views.{BesideView, TablesView}
-use Rattle.wtf_clients.proofs.Added.{sizes_grow}
-use Rattle.wtf_clients.proofs.Collected.{collect_lie}
-use Rattle.wtf_clients.proofs.Freeing.{collect_freed}
-use Rattle.wtf_clients.proofs.SafeLaws.{lie_on}
-use Rattle.wtf_core.specs.Turns.{LineTurn}
-use Rattle.wtf_core.specs.Views.{CoreView}
-use Rattle.wtf_core.proofs.Moves.{line_moves}
-use Rattle.wtf_core.proofs.Stamped.{IsOther}
+use Rattle.wtf_core.proofs.Common.{EachFollows, Range, StoreKind, KindLaws, size_in, Span, Dev, Answer, ScanBusy, NoScan, Event, Extent, run_on, with_run}
+use Rattle.wtf_core.proofs.Common.{with_finished, RunView, GcView, length_in, scan_of, AreUpto, LieIn, ScanTurn, StartsTurn, PieceTurn, PieceFails, DoesTurn}
+use Rattle.wtf_core.proofs.Common.{AreSound, BesideView, TablesView, sizes_grow, collect_lie, collect_freed, lie_on, LineTurn, CoreView, ◌≡◌, ◌≤◌, ℕ, Bool}
+use Rattle.wtf_core.proofs.Common.{true, false, cond, nat_eq, nat_lt, List, Option, Some, sym, subst, arith}
+use Rattle.wtf_core.proofs.{Moves.line_moves, Stamped.IsOther}
 
 -- ---- a scan
 -- the length of a file as it is noted is at most its length
@@ -47,9 +26,9 @@ starts_lie kind shelf old new h lie =
 
 scan_lie : {S : Type 0} (kind : StoreKind S) (shelf : List S) (old new : TablesView) (a : Answer) → ScanTurn kind shelf old new a
     → LieIn old.beside.gc (size_in kind shelf) → LieIn new.beside.gc (size_in kind shelf)
-scan_lie kind shelf old new (answer.Refused ScanBusy) h lie = subst (λ (t : TablesView). LieIn t.beside.gc (size_in kind shelf)) (sym h.0) lie
-scan_lie kind shelf old new (answer.Held who) h lie = subst (λ (t : TablesView). LieIn t.beside.gc (size_in kind shelf)) (sym h.0) lie
-scan_lie kind shelf old new answer.Scanning h lie = starts_lie kind shelf old new h lie
+scan_lie kind shelf old new (Answer.Refused ScanBusy) h lie = subst (λ (t : TablesView). LieIn t.beside.gc (size_in kind shelf)) (sym h.0) lie
+scan_lie kind shelf old new (Answer.Held who) h lie = subst (λ (t : TablesView). LieIn t.beside.gc (size_in kind shelf)) (sym h.0) lie
+scan_lie kind shelf old new Answer.Scanning h lie = starts_lie kind shelf old new h lie
 scan_lie kind shelf old new a h lie = absurd h
 
 -- ---- parts of one
@@ -75,9 +54,9 @@ piece_lie kind before after old new n length a h lie = by a h
     fails b f = subst (λ (s : BesideView). LieIn s.gc length) (sym f.pruned.beside) lie
 
     by : (b : Answer) → PieceTurn kind before after old new n b → LieIn new.beside.gc length
-    by (answer.Refused NoScan) g = subst (λ (t : TablesView). LieIn t.beside.gc length) (sym g.0) lie
-    by (answer.More left) g = does left g.1
-    by answer.Done g = does 0 g
+    by (Answer.Refused NoScan) g = subst (λ (t : TablesView). LieIn t.beside.gc length) (sym g.0) lie
+    by (Answer.More left) g = does left g.1
+    by Answer.Done g = does 0 g
     by b g = fails b g
 
 -- ---- each line
@@ -91,19 +70,11 @@ module _ {S : Type 0} {kind : StoreKind S} (laws : KindLaws kind) (t : Span S) (
       (subst (λ (g : GcView). LieIn g (size_in kind t.before)) (sym ((line_moves kind t old new sound a e turn).aged other).gc) lie)
 
   pub line_lie : (e : Event) → LineTurn kind t old new e a → LieIn new.tables.beside.gc (size_in kind t.after)
-  line_lie event.Scan turn = grown new.tables.beside.gc (scan_lie kind t.before old.tables new.tables a turn.0 lie)
-  line_lie (event.Piece n) turn =
+  line_lie Event.Scan turn = grown new.tables.beside.gc (scan_lie kind t.before old.tables new.tables a turn.0 lie)
+  line_lie (Event.Piece n) turn =
       grown new.tables.beside.gc (piece_lie kind turn.0.before turn.0.after old.tables new.tables n (size_in kind t.before) a turn.0.did lie)
-  line_lie (event.Collect k) turn =
+  line_lie (Event.Collect k) turn =
       let by = turn.0 in
       subst (λ (s : Span S). LieIn old.tables.beside.gc (size_in kind s.before) → LieIn new.tables.beside.gc (size_in kind s.after)) by.lent.span_is
       (collect_lie laws (collect_freed laws by.before by.after old.tables new.tables k a by.did)) lie
-  line_lie (event.Client c v) turn = other_lie (event.Client c v) tt turn
-  line_lie (event.Plan j job p r) turn = other_lie (event.Plan j job p r) tt turn
-  line_lie (event.Put j) turn = other_lie (event.Put j) tt turn
-  line_lie (event.DropJob j) turn = other_lie (event.DropJob j) tt turn
-  line_lie (event.Down k) turn = other_lie (event.Down k) tt turn
-  line_lie (event.Up k) turn = other_lie (event.Up k) tt turn
-  line_lie (event.Dump p) turn = other_lie (event.Dump p) tt turn
-  line_lie event.Tree turn = other_lie event.Tree tt turn
-  line_lie event.Save turn = other_lie event.Save tt turn
+  line_lie e turn = other_lie e tt turn

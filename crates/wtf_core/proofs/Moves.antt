@@ -1,50 +1,14 @@
 -- What a line moves of the tables: one record, made by one walk over the lines, of which all is read off that a line leaves.
-use Rattle.std.proofs.Common.{◌≡◌, ◌≢◌, ◌≤◌, ℕ, ◌+◌, Bool, true, false, cond, nat_eq, nat_lt, List, Option, None, Some, MatchOption}
-use Rattle.std.proofs.Common.{refl, sym, ap, ◌∙◌, subst, inl, inr, ⊎_elim, arith}
-use Rattle.std.specs.Bool.{MatchBool}
-use Rattle.std.specs.Prelude.{◌⊎◌, IsTrue}
-use Rattle.wtf_dev.specs.Store.{StoreKind}
-use Rattle.wtf_replica.specs.Spans.{Span}
-use Rattle.wtf_kv.specs.Stores.{Store, is_live, times_pinned}
-use Rattle.wtf_values.specs.declared.key.Key.{Key}
-use Rattle.wtf_values.specs.declared.value.Value.{Value}
-use Rattle.wtf_model.specs.Steps.{IsLogged}
-use Rattle.wtf_model.specs.declared.answer.Answer.{Answer, Aborted'}
-use Rattle.wtf_model.specs.declared.answer.Answer.TheVariants as answer
-use Rattle.wtf_model.specs.declared.answer.Word.{Word}
-use Rattle.wtf_model.specs.declared.answer.Word.TheVariants.{NoTx, InTx, NoServer, NoJob, JobInUse, ScanBusy, NoScan}
-use Rattle.wtf_model.specs.declared.op.JobKind.{JobKind}
-use Rattle.wtf_model.specs.declared.event.Event.{Event}
-use Rattle.wtf_model.specs.declared.event.Event.TheVariants as event
-use Rattle.wtf_model.specs.declared.event.Verb.{Verb}
-use Rattle.wtf_model.specs.declared.event.Verb.TheVariants as verb
-use Rattle.wtf_meta.specs.Maps.{metadata_at}
-use Rattle.wtf_region.specs.declared.dev.Dev.{Dev}
-use Rattle.wtf_replay.specs.Views.{TxnView}
-use Rattle.wtf_replay.specs.Refusals.{call_refusal, try_refusal, step_refusal}
-use Rattle.wtf_replay.specs.Tried.{KeepsMaps}
-use Rattle.wtf_compact.specs.Jobs.{JobView}
-use Rattle.wtf_compact.specs.Putting.{IsJobPut}
-use Rattle.wtf_gc.specs.Scans.{run_on, with_run, with_finished}
-use Rattle.wtf_gc.specs.Views.{RunView, GcView}
-use Rattle.wtf_clients.specs.Views.{BesideView, TablesView, of_client, of_label, was_job, with_gc}
-use Rattle.wtf_clients.specs.Seeing.{Seeing, seeing}
-use Rattle.wtf_clients.specs.Sounds.{AreSound, Sets, all_kept}
-use Rattle.wtf_clients.specs.Saves.{AreUp, Saves, SaveTurn, only_image, with_image}
-use Rattle.wtf_clients.specs.JobTurns.{KeepsOthers, RefusesJob, FreePlan, PlanTurn, Puts, PutTurn, DropsJob, DropTurn}
-use Rattle.wtf_clients.specs.ScanTurns.{ScanTurn, PieceTurn, PieceFails, DoesTurn, CollectTurn, KeepsStore}
-use Rattle.wtf_clients.specs.Turns.{SetsClientAlone, TablesStay, Refuses, Begins, Ends, Tries, Calls, CallFails, StepTurn, Finals, LoneTurn, TxnTurn}
-use Rattle.wtf_clients.specs.Turns.{ClientTurn}
-use Rattle.wtf_clients.proofs.Dumping.{uncollected}
-use Rattle.wtf_clients.proofs.JobTurning.{plan_reaches, put_reaches, drop_reaches}
-use Rattle.wtf_clients.proofs.Lives.{Reaches, live_upto, pinned_live, same_reaches, begun_reaches, ended_reaches, moved_reaches}
-use Rattle.wtf_clients.proofs.Lives.{saved_reaches, same_kept, added_kept, only_kept}
-use Rattle.wtf_clients.proofs.Pins.{number_cases}
-use Rattle.wtf_clients.proofs.ScanFrames.{same_maps}
-use Rattle.wtf_clients.proofs.Staying.{IsFault, fault_is}
-use Rattle.wtf_core.specs.Punched.{IsUncollected}
-use Rattle.wtf_core.specs.Turns.{Switches, IsTreeAnswer, LineTurn}
-use Rattle.wtf_core.specs.Views.{CoreView, lent_of}
+use Rattle.wtf_core.proofs.Common.{MatchBool, StoreKind, KeepsMaps, of_client, PieceTurn, PieceFails, KeepsStore, TablesStay, CallFails, ClientTurn, added_kept}
+use Rattle.wtf_core.proofs.Common.{◌⊎◌, times_pinned, with_finished, SetsClientAlone, begun_reaches, ended_reaches, moved_reaches, saved_reaches, IsUncollected}
+use Rattle.wtf_core.proofs.Common.{IsTrue, Answer, NoScan, run_on, GcView, Seeing, seeing, Begins, Finals, TxnTurn, Reaches, IsFault, lent_of, nat_eq, nat_lt}
+use Rattle.wtf_core.proofs.Common.{Span, of_label, AreSound, all_kept, SaveTurn, FreePlan, PlanTurn, DropsJob, DropTurn, ScanTurn, DoesTurn, StepTurn, LoneTurn}
+use Rattle.wtf_core.proofs.Common.{Store, Value, Word, NoTx, InTx, NoJob, Event, Verb, Sets, AreUp, Saves, Tries, Calls, ℕ, false, Option, subst, ⊎_elim, arith}
+use Rattle.wtf_core.proofs.Common.{is_live, Key, JobKind, TxnView, JobView, RunView, was_job, with_gc, PutTurn, Refuses, fault_is, Switches, LineTurn, CoreView}
+use Rattle.wtf_core.proofs.Common.{IsLogged, Aborted', NoServer, JobInUse, ScanBusy, IsJobPut, with_run, live_upto, same_kept, only_kept, same_maps, all_stays}
+use Rattle.wtf_core.proofs.Common.{metadata_at, call_refusal, try_refusal, step_refusal, plan_reaches, drop_reaches, same_reaches, number_cases, IsTreeAnswer}
+use Rattle.wtf_core.proofs.Common.{Dev, Puts, Ends, ◌≡◌, ◌≢◌, ◌≤◌, ◌+◌, Bool, true, cond, List, None, Some, refl, sym, ap, ◌∙◌, inl, inr}
+use Rattle.wtf_core.proofs.Common.{BesideView, TablesView, only_image, with_image, KeepsOthers, RefusesJob, CollectTurn, uncollected, put_reaches, MatchOption}
 use Rattle.wtf_core.proofs.Stamped.{IsOther}
 
 -- ---- what is moved
@@ -75,17 +39,18 @@ pub record Aged (old new : TablesView) : Type 0 where
   pub gc : new.beside.gc ≡ old.beside.gc
   pub scan_tx : new.beside.scan_tx ≡ old.beside.scan_tx
   pub txns : (c : ℕ) (y : TxnView) → of_client new.clients c ≡ Some y → KeepsAge old.next_tx (of_client old.clients c) y
-  pub jobs : (j : ℕ) (y : JobView) → of_label new.beside.jobs j ≡ Some y
-      → KeepsMark (was_job old.beside j) (of_label old.beside.jobs j) (was_job new.beside j)
+  pub jobs : (j : ℕ) (y : JobView) → of_label new.beside.jobs j ≡ Some y → KeepsMark (was_job old.beside j) (of_label old.beside.jobs j) (was_job new.beside j)
 
--- The maps at numbers that can be read stay. A save alone moves the images, a collection alone what was freed, and lines of scans alone the scans.
+-- The maps at numbers that can be read stay, and so does the number that is watched. A save alone moves the images, a collection alone what was freed,
+-- and lines of scans alone the scans.
 pub record Moves (old new : TablesView) (e : Event) (a : Answer) : Type 0 where
   pub rises : Rises old new
   pub maps : (n : ℕ) → IsTrue (is_live old.kv n) → metadata_at new.kv n ≡ metadata_at old.kv n
-  pub images : e ≢ event.Save → SameImages old.beside new.beside
-  pub numbers : e ≡ event.Save → (new.kv.number ≡ old.kv.number) × (new.next_tx ≡ old.next_tx)
-  pub freed : ((k : ℕ) → e ≢ event.Collect k) → new.beside.gc.freed ≡ old.beside.gc.freed
-  pub answer : ((k : ℕ) → e ≢ event.Collect k) → IsUncollected a
+  pub images : e ≢ Event.Save → SameImages old.beside new.beside
+  pub numbers : e ≡ Event.Save → (new.kv.number ≡ old.kv.number) × (new.next_tx ≡ old.next_tx)
+  pub watched : new.beside.watched ≡ old.beside.watched
+  pub freed : ((k : ℕ) → e ≢ Event.Collect k) → new.beside.gc.freed ≡ old.beside.gc.freed
+  pub answer : ((k : ℕ) → e ≢ Event.Collect k) → IsUncollected a
   pub aged : IsOther e → Aged old new
 
 -- what is read of the images goes on
@@ -94,7 +59,7 @@ pub record GoesLive (old new : TablesView) : Type 0 where
   pub more : old.next_tx ≤ new.next_tx
   pub saved : SameImages old.beside new.beside
 
-pub goes_live : (old new : TablesView) (e : Event) (a : Answer) → Moves old new e a → e ≢ event.Save → GoesLive old new
+pub goes_live : (old new : TablesView) (e : Event) (a : Answer) → Moves old new e a → e ≢ Event.Save → GoesLive old new
 goes_live old new e a moves unsaved = record { maps = moves.maps; more = moves.rises.no_earlier; saved = moves.images unsaved }
 
 -- ---- parts of it
@@ -137,60 +102,58 @@ beside_marks old new same j y is =
     (stays_mark (was_job old j) (of_label old.jobs j) y (ap (λ (b : BesideView). of_label b.jobs j) (sym same) ∙ is))
 
 logged_uncollected : (a : Answer) → IsLogged a → IsUncollected a
-logged_uncollected (answer.Collected n) h = absurd h
+logged_uncollected (Answer.Collected n) h = absurd h
 logged_uncollected a h = tt
 
 fault_uncollected : (a : Answer) → IsFault a → IsUncollected a
-fault_uncollected (answer.Collected n) h = absurd h
+fault_uncollected (Answer.Collected n) h = absurd h
 fault_uncollected a h = tt
 
-refused_uncollected : (a : Answer) (w : Word) → a ≡ answer.Refused w → IsUncollected a
+refused_uncollected : (a : Answer) (w : Word) → a ≡ Answer.Refused w → IsUncollected a
 refused_uncollected a w is = subst IsUncollected (sym is) tt
 
--- what a line moves that saves nothing, collects nothing and does nothing of a scan
-pub record Plainly (old new : TablesView) (a : Answer) : Type 0 where
+-- what a line moves that saves nothing and collects nothing
+pub record Keeps (old new : TablesView) (a : Answer) : Type 0 where
   pub rises : Rises old new
   pub maps : (n : ℕ) → IsTrue (is_live old.kv n) → metadata_at new.kv n ≡ metadata_at old.kv n
   pub images : SameImages old.beside new.beside
+  pub watched : new.beside.watched ≡ old.beside.watched
+  pub freed : new.beside.gc.freed ≡ old.beside.gc.freed
   pub answer : IsUncollected a
+
+-- and does nothing of a scan
+pub record Plainly (old new : TablesView) (a : Answer) : Type 0 where
+  pub keeps : Keeps old new a
   pub aged : Aged old new
 
-same_plainly : (old new : TablesView) (a : Answer) → IsUncollected a → new ≡ old → Plainly old new a
-same_plainly old new a said is = subst (λ t. Plainly old t a) (sym is) (record {
-  rises = stay old old refl refl;
-  maps = λ n live. refl;
-  images = (refl, refl);
-  answer = said;
-  aged = record {
-    reach = λ n pinned. pinned_live old.kv n pinned;
-    gc = refl;
-    scan_tx = refl;
-    txns = λ c y there. stays_age old.next_tx (of_client old.clients c) y there;
-    jobs = λ j y there. stays_mark (was_job old.beside j) (of_label old.beside.jobs j) y there;
-  };
-})
-
-plainly_moves : (old new : TablesView) (e : Event) (a : Answer) → e ≢ event.Save → Plainly old new a → Moves old new e a
-plainly_moves old new e a unsaved h = record {
+keeps_move : (old new : TablesView) (e : Event) (a : Answer) → e ≢ Event.Save → Keeps old new a → (IsOther e → Aged old new) → Moves old new e a
+keeps_move old new e a unsaved h aged = record {
   rises = h.rises;
   maps = h.maps;
   images = λ ne. h.images;
+  watched = h.watched;
   numbers = λ is. absurd (unsaved is);
-  freed = λ ne. ap (λ (g : GcView). g.freed) h.aged.gc;
+  freed = λ ne. h.freed;
   answer = λ ne. h.answer;
-  aged = λ other. h.aged;
+  aged = aged;
 }
+
+plainly_moves : (old new : TablesView) (e : Event) (a : Answer) → e ≢ Event.Save → Plainly old new a → Moves old new e a
+plainly_moves old new e a unsaved h = keeps_move old new e a unsaved h.keeps (λ other. h.aged)
 
 -- ---- lines of clients
 module _ (old new : TablesView) (c : ℕ) (sound : AreSound old) where
   set : (now : Option TxnView) → Sets c now old.clients new.clients → KeepsMaps old.kv new.kv → Reaches old.kv new.kv → new.beside ≡ old.beside
-      → Rises old new → ((y : TxnView) → now ≡ Some y → KeepsAge old.next_tx (of_client old.clients c) y) → (a : Answer) → IsUncollected a
-      → Plainly old new a
+      → Rises old new → ((y : TxnView) → now ≡ Some y → KeepsAge old.next_tx (of_client old.clients c) y) → (a : Answer) → IsUncollected a → Plainly old new a
   set now sets maps reach beside up own a said = record {
-    rises = up;
-    maps = λ n live. maps n (live_upto old n sound live);
-    images = same_images old.beside new.beside beside;
-    answer = said;
+    keeps = record {
+      rises = up;
+      maps = λ n live. maps n (live_upto old n sound live);
+      images = same_images old.beside new.beside beside;
+      watched = ap (λ (b : BesideView). b.watched) beside;
+      freed = ap (λ (b : BesideView). b.gc.freed) beside;
+      answer = said;
+    };
     aged = record {
       reach = reach;
       gc = ap (λ (b : BesideView). b.gc) beside;
@@ -218,13 +181,15 @@ module _ (old new : TablesView) (c : ℕ) (sound : AreSound old) where
       (stay old new (same_store old.kv new.kv h.kv) h.next_tx) own a said
 
   refuses : (w : Word) (a : Answer) → Refuses old new c w a → Plainly old new a
-  refuses w a h =
-      keeps (of_client old.clients c) h.keeps (λ y is. stays_age old.next_tx (of_client old.clients c) y is) a (refused_uncollected a w h.answer)
+  refuses w a h = keeps (of_client old.clients c) h.keeps (λ y is. stays_age old.next_tx (of_client old.clients c) y is) a (refused_uncollected a w h.answer)
 
   stays : TablesStay old new c → (a : Answer) → IsUncollected a → Plainly old new a
   stays h a said =
       set (of_client old.clients c) h.clients h.maps (same_reaches old.kv new.kv h.pins) h.beside (stay old new h.number h.next_tx)
       (λ y is. stays_age old.next_tx (of_client old.clients c) y is) a said
+
+  unchanged : new ≡ old → (a : Answer) → IsUncollected a → Plainly old new a
+  unchanged is a said = stays (subst (λ (t : TablesView). TablesStay old t c) (sym is) (all_stays old c)) a said
 
   ends : (mid : Store Key Value) (x : TxnView) → (old.kv.number ≤ mid.number) × (mid.number ≤ old.kv.number + 1) → Ends old new mid c x
       → (a : Answer) → IsUncollected a → Plainly old new a
@@ -246,35 +211,34 @@ module _ (old new : TablesView) (c : ℕ) (sound : AreSound old) where
       tx_of (Some x) = x.tx
 
   tries : (x : TxnView) (a : Answer) → of_client old.clients c ≡ Some x → Tries old new c x a → Plainly old new a
-  tries x (answer.Committed n) here h =
+  tries x (Answer.Committed n) here h =
       let is = h.committed.installed.number in
       let next = h.committed.installed.next in
-      ends h.mid x (omega (arith, is, next), omega (arith, is, next)) h.ends (answer.Committed n) tt
-  tries x (answer.Retry b n) here h =
+      ends h.mid x (omega (arith, is, next), omega (arith, is, next)) h.ends (Answer.Committed n) tt
+  tries x (Answer.Retry b n) here h =
       set (Some h.later) h.clients h.maps (moved_reaches old.kv new.kv b n h.retried.number_is h.retried.pins) h.beside
-      (stay old new h.retried.number h.next_tx) (goes_age x here h.later (ap (λ (y : TxnView). y.tx) h.retried.is)) (answer.Retry b n) tt
+      (stay old new h.retried.number h.next_tx) (goes_age x here h.later (ap (λ (y : TxnView). y.tx) h.retried.is)) (Answer.Retry b n) tt
   tries x a here h = absurd h
 
   module _ (z : Seeing) where
     steps : (x : TxnView) (a : Answer) → of_client old.clients c ≡ Some x → StepTurn z old new c x a → Plainly old new a
-    steps x (answer.Replayed i) here h =
-        keeps (Some h.later_one) h.keeps (goes_age x here h.later_one (ap (λ (y : TxnView). y.tx) h.replayed.is)) (answer.Replayed i) tt
+    steps x (Answer.Replayed i) here h =
+        keeps (Some h.later_one) h.keeps (goes_age x here h.later_one (ap (λ (y : TxnView). y.tx) h.replayed.is)) (Answer.Replayed i) tt
     steps x (Aborted' i box b) here h = ends old.kv x (still old.kv.number) h.ends (Aborted' i box b) tt
     steps x a here h = stays h.fails.stays a (fault_uncollected a (fault_is h.fails.why a h.fails.answer))
 
     finals : (x : TxnView) (a : Answer) → Finals z old new c x a → Plainly old new a
-    finals x (answer.Committed n) h =
+    finals x (Answer.Committed n) h =
         let is = h.number in
         let next = h.next in
-        ends h.mid x (omega (arith, is, next), omega (arith, is, next)) h.ends (answer.Committed n) tt
+        ends h.mid x (omega (arith, is, next), omega (arith, is, next)) h.ends (Answer.Committed n) tt
     finals x (Aborted' i box b) h =
         let is = h.number in
         ends h.mid x (omega (arith, is), omega (arith, is)) h.ends (Aborted' i box b) tt
     finals x a h = stays h.fails.stays a (fault_uncollected a (fault_is h.fails.why a h.fails.answer))
 
     made : (x : TxnView) (o : _) (a : Answer) → of_client old.clients c ≡ Some x → Calls z old new c x o a ⊎ CallFails z old new c x o a → Plainly old new a
-    made x o a here (inl h) =
-        keeps (Some h.later_one) h.keeps (goes_age x here h.later_one h.called.logged.tx) a (logged_uncollected a h.called.logged.answer)
+    made x o a here (inl h) = keeps (Some h.later_one) h.keeps (goes_age x here h.later_one h.called.logged.tx) a (logged_uncollected a h.called.logged.answer)
     made x o a here (inr h) = stays h.fails.stays a (fault_uncollected a (fault_is h.fails.why a h.fails.answer))
 
     -- unless it is refused
@@ -283,23 +247,21 @@ module _ (old new : TablesView) (c : ℕ) (sound : AreSound old) where
     or_refused P a (Some w) go h = refuses w a h
 
     lone : (v : Verb) (a : Answer) → of_client old.clients c ≡ None → LoneTurn z old new c v a → Plainly old new a
-    lone verb.Begin a none h = begins a none h
+    lone Verb.Begin a none h = begins a none h
     lone v a none h = refuses NoTx a h
 
-    txn : (x : TxnView) (v : Verb) (a : Answer) → of_client old.clients c ≡ Some x → TxnTurn z old new c x v a
-        → Plainly old new a
-    txn x verb.Begin a here h = refuses InTx a h
-    txn x verb.Try a here h = or_refused (Tries old new c x a) a (try_refusal x) (tries x a here) h
-    txn x verb.Step a here h = or_refused (StepTurn z old new c x a) a (step_refusal x) (steps x a here) h
-    txn x verb.Commit a here h = finals x a h
-    txn x verb.Abort a here h = ends old.kv x (still old.kv.number) h.1 a (subst IsUncollected (sym h.0) tt)
-    txn x (verb.Call o) a here h = or_refused _ a (call_refusal x) (made x o a here) h
+    txn : (x : TxnView) (v : Verb) (a : Answer) → of_client old.clients c ≡ Some x → TxnTurn z old new c x v a → Plainly old new a
+    txn x Verb.Begin a here h = refuses InTx a h
+    txn x Verb.Try a here h = or_refused (Tries old new c x a) a (try_refusal x) (tries x a here) h
+    txn x Verb.Step a here h = or_refused (StepTurn z old new c x a) a (step_refusal x) (steps x a here) h
+    txn x Verb.Commit a here h = finals x a h
+    txn x Verb.Abort a here h = ends old.kv x (still old.kv.number) h.1 a (subst IsUncollected (sym h.0) tt)
+    txn x (Verb.Call o) a here h = or_refused _ a (call_refusal x) (made x o a here) h
 
     client : (v : Verb) (a : Answer) → ClientTurn z old new c v a → Plainly old new a
     client v a h = by (of_client old.clients c) refl h
       where
-        by : (o : Option TxnView) → of_client old.clients c ≡ o → MatchOption o (LoneTurn z old new c v a)
-            (λ x. TxnTurn z old new c x v a) → Plainly old new a
+        by : (o : Option TxnView) → of_client old.clients c ≡ o → MatchOption o (LoneTurn z old new c v a) (λ x. TxnTurn z old new c x v a) → Plainly old new a
         by None here g = lone v a here g
         by (Some x) here g = txn x v a here g
 
@@ -310,10 +272,14 @@ module _ (old new : TablesView) (j : ℕ) (sound : AreSound old) where
       → ((y : JobView) → now ≡ Some y → KeepsMark (was_job old.beside j) (of_label old.beside.jobs j) (was_job new.beside j))
       → (a : Answer) → IsUncollected a → Plainly old new a
   others now h maps reach up own a said = record {
-    rises = rises_by old new new.kv.number old.next_tx refl h.next_tx up (still old.next_tx);
-    maps = λ n live. maps n (live_upto old n sound live);
-    images = (ap (λ (b : BesideView). b.images) h.beside, ap (λ (b : BesideView). b.none) h.beside);
-    answer = said;
+    keeps = record {
+      rises = rises_by old new new.kv.number old.next_tx refl h.next_tx up (still old.next_tx);
+      maps = λ n live. maps n (live_upto old n sound live);
+      images = (ap (λ (b : BesideView). b.images) h.beside, ap (λ (b : BesideView). b.none) h.beside);
+      watched = ap (λ (b : BesideView). b.watched) h.beside;
+      freed = ap (λ (b : BesideView). b.gc.freed) h.beside;
+      answer = said;
+    };
     aged = record {
       reach = reach;
       gc = ap (λ (b : BesideView). b.gc) h.beside;
@@ -324,23 +290,22 @@ module _ (old new : TablesView) (j : ℕ) (sound : AreSound old) where
           (own y (sym h.jobs.is ∙ ap (of_label new.beside.jobs) (sym same) ∙ is)))
           (λ other.
           subst (λ b. KeepsMark (was_job old.beside l) (of_label old.beside.jobs l) b) (sym (h.others l other))
-          (stays_mark (was_job old.beside l) (of_label old.beside.jobs l) y (sym (h.jobs.others l other) ∙ is)))
-          (number_cases l j);
+          (stays_mark (was_job old.beside l) (of_label old.beside.jobs l) y (sym (h.jobs.others l other) ∙ is))) (number_cases l j);
     };
   }
 
   refused : (w : Word) (a : Answer) → RefusesJob old new w a → Plainly old new a
-  refused w a h = same_plainly old new a (refused_uncollected a w h.answer) h.same
+  refused w a h = unchanged old new 0 sound h.same a (refused_uncollected a w h.answer)
 
   module _ (z : Seeing) (kind : JobKind) (p : List ℕ) (r : ℕ) where
     free : (a : Answer) → of_label old.beside.jobs j ≡ None → FreePlan z old new j kind p r a → Plainly old new a
-    free answer.Planned none h =
+    free Answer.Planned none h =
         let same : new.kv.number ≡ old.kv.number = ap (λ (s : Store Key Value). s.number) h.plans.kv in
         others (Some h.job) h.plans.keeps (λ n le. ap (λ (s : Store Key Value). metadata_at s n) h.plans.kv)
         (plan_reaches old new j sound kind p r h.job none h.plans) (omega (arith, same), omega (arith, same))
-        (λ y is. subst (λ o. KeepsMark (was_job old.beside j) o (was_job new.beside j)) (sym none) h.plans.unmarked) answer.Planned tt
-    free (answer.Refused w) none h = same_plainly old new (answer.Refused w) tt h.same
-    free a none h = same_plainly old new a (fault_uncollected a (fault_is h.why a h.answer)) h.same
+        (λ y is. subst (λ o. KeepsMark (was_job old.beside j) o (was_job new.beside j)) (sym none) h.plans.unmarked) Answer.Planned tt
+    free (Answer.Refused w) none h = unchanged old new 0 sound h.same (Answer.Refused w) tt
+    free a none h = unchanged old new 0 sound h.same a (fault_uncollected a (fault_is h.why a h.answer))
 
     plan : (a : Answer) → PlanTurn z old new j kind p r a → Plainly old new a
     plan a h = by (of_label old.beside.jobs j) refl h
@@ -351,26 +316,24 @@ module _ (old new : TablesView) (j : ℕ) (sound : AreSound old) where
         by (Some x) there g = refused JobInUse a g
 
     -- it was planned under a label that had no job
-    pub planned_free : (a : Answer) → PlanTurn z old new j kind p r a → a ≡ answer.Planned
-        → of_label old.beside.jobs j ≡ None
+    pub planned_free : (a : Answer) → PlanTurn z old new j kind p r a → a ≡ Answer.Planned → of_label old.beside.jobs j ≡ None
     planned_free a h is = by (of_label old.beside.jobs j) h
       where
-        by : (o : Option JobView) → MatchOption o (FreePlan z old new j kind p r a)
-            (λ x. RefusesJob old new JobInUse a) → o ≡ None
+        by : (o : Option JobView) → MatchOption o (FreePlan z old new j kind p r a) (λ x. RefusesJob old new JobInUse a) → o ≡ None
         by None g = refl
-        by (Some x) g = let said : a ≡ answer.Refused JobInUse = g.answer in absurd (cc)
+        by (Some x) g = let said : a ≡ Answer.Refused JobInUse = g.answer in absurd (cc)
 
   -- ... put in place, or stale
   puts : (x : JobView) (a : Answer) → of_label old.beside.jobs j ≡ Some x → Puts old new j x a → IsJobPut x old.kv new.kv a → Plainly old new a
-  puts x (answer.Installed n) there h put =
+  puts x (Answer.Installed n) there h put =
       let number = put.number in
       let next = put.next in
-      others None h.keeps h.maps (put_reaches old new j sound x there (answer.Installed n) h) (omega (arith, number, next), omega (arith, number, next))
-      (λ y is. absurd (cc)) (answer.Installed n) tt
-  puts x (answer.Stale b n) there h put =
+      others None h.keeps h.maps (put_reaches old new j sound x there (Answer.Installed n) h) (omega (arith, number, next), omega (arith, number, next))
+      (λ y is. absurd (cc)) (Answer.Installed n) tt
+  puts x (Answer.Stale b n) there h put =
       let number = put.number in
-      others None h.keeps h.maps (put_reaches old new j sound x there (answer.Stale b n) h) (omega (arith, number), omega (arith, number))
-      (λ y is. absurd (cc)) (answer.Stale b n) tt
+      others None h.keeps h.maps (put_reaches old new j sound x there (Answer.Stale b n) h) (omega (arith, number), omega (arith, number))
+      (λ y is. absurd (cc)) (Answer.Stale b n) tt
   puts x a there h put = absurd put
 
   put : (a : Answer) → PutTurn old new j a → Plainly old new a
@@ -383,8 +346,7 @@ module _ (old new : TablesView) (j : ℕ) (sound : AreSound old) where
   drop : (a : Answer) → DropTurn old new j a → Plainly old new a
   drop a h = by (of_label old.beside.jobs j) refl h
     where
-      by : (o : Option JobView) → of_label old.beside.jobs j ≡ o → MatchOption o (RefusesJob old new NoJob a) (λ x. DropsJob old new j x a)
-          → Plainly old new a
+      by : (o : Option JobView) → of_label old.beside.jobs j ≡ o → MatchOption o (RefusesJob old new NoJob a) (λ x. DropsJob old new j x a) → Plainly old new a
       by None none g = refused NoJob a g
       by (Some x) there g =
           let same : new.kv.number ≡ old.kv.number = ap (λ (s : Store Key Value). s.number) g.kv in
@@ -394,7 +356,7 @@ module _ (old new : TablesView) (j : ℕ) (sound : AreSound old) where
 -- ---- a save
 saves : (old new : TablesView) (now : BesideView) → AreSound old → now ≡ record old.beside { images = now.images; none = now.none }
     → ((n : ℕ) → all_kept n now ≤ all_kept n old.beside + cond (nat_eq n old.kv.number) 1 0) → Saves old new now → (a : Answer) → IsUncollected a
-    → Moves old new event.Save a
+    → Moves old new Event.Save a
 saves old new now sound rest most h a said =
     let beside : new.beside ≡ record old.beside { images = now.images; none = now.none } = h.beside ∙ rest in
     record {
@@ -402,6 +364,7 @@ saves old new now sound rest most h a said =
       maps = λ n live. h.maps n (live_upto old n sound live);
       images = λ ne. absurd (ne refl);
       numbers = λ is. (h.number, h.next_tx);
+      watched = ap (λ (b : BesideView). b.watched) beside;
       freed = λ ne. ap (λ (b : BesideView). b.gc.freed) beside;
       answer = λ ne. said;
       aged = λ other. record {
@@ -415,44 +378,26 @@ saves old new now sound rest most h a said =
       };
     }
 
-save : (Up : Type 0) (old new : TablesView) (a : Answer) → AreSound old → SaveTurn Up old new a → Moves old new event.Save a
-save Up old new (answer.Saved n) sound (is, up, h) = saves old new (only_image old.beside n) sound refl (λ k. only_kept old n k is) h (answer.Saved n) tt
-save Up old new answer.FaultSave sound (inl h) = saves old new old.beside sound refl (same_kept old) h answer.FaultSave tt
-save Up old new answer.FaultSave sound (inr h) = saves old new (with_image old.beside old.kv.number) sound refl (added_kept old) h answer.FaultSave tt
+save : (Up : Type 0) (old new : TablesView) (a : Answer) → AreSound old → SaveTurn Up old new a → Moves old new Event.Save a
+save Up old new (Answer.Saved n) sound (is, up, h) = saves old new (only_image old.beside n) sound refl (λ k. only_kept old n k is) h (Answer.Saved n) tt
+save Up old new Answer.FaultSave sound (inl h) = saves old new old.beside sound refl (same_kept old) h Answer.FaultSave tt
+save Up old new Answer.FaultSave sound (inr h) = saves old new (with_image old.beside old.kv.number) sound refl (added_kept old) h Answer.FaultSave tt
 save Up old new a sound turn = absurd turn
 
 -- ---- lines of scans
--- what a line of a scan that collects nothing moves of the tables
-pub record Scans (old new : TablesView) (a : Answer) : Type 0 where
-  pub rises : Rises old new
-  pub maps : (n : ℕ) → IsTrue (is_live old.kv n) → metadata_at new.kv n ≡ metadata_at old.kv n
-  pub images : SameImages old.beside new.beside
-  pub freed : new.beside.gc.freed ≡ old.beside.gc.freed
-  pub answer : IsUncollected a
-
-same_scans : (old new : TablesView) (a : Answer) → IsUncollected a → new ≡ old → Scans old new a
+same_scans : (old new : TablesView) (a : Answer) → IsUncollected a → new ≡ old → Keeps old new a
 same_scans old new a said is =
-    subst (λ t. Scans old t a) (sym is)
-    (record { rises = stay old old refl refl; maps = λ n live. refl; images = (refl, refl); freed = refl; answer = said })
+    subst (λ t. Keeps old t a) (sym is)
+    (record { rises = stay old old refl refl; maps = λ n live. refl; images = (refl, refl); watched = refl; freed = refl; answer = said })
 
-scans_move : (old new : TablesView) (e : Event) (a : Answer) → e ≢ event.Save → (IsOther e → ⊥) → Scans old new a → Moves old new e a
-scans_move old new e a unsaved scans h = record {
-  rises = h.rises;
-  maps = h.maps;
-  images = λ ne. h.images;
-  numbers = λ is. absurd (unsaved is);
-  freed = λ ne. h.freed;
-  answer = λ ne. h.answer;
-  aged = λ other. absurd (scans other);
-}
-
-scan : {S : Type 0} (kind : StoreKind S) (shelf : List S) (old new : TablesView) (a : Answer) → ScanTurn kind shelf old new a → Scans old new a
-scan kind shelf old new (answer.Refused ScanBusy) h = same_scans old new (answer.Refused ScanBusy) tt h.0
-scan kind shelf old new (answer.Held who) h = same_scans old new (answer.Held who) tt h.0
-scan kind shelf old new answer.Scanning h = record {
+scan : {S : Type 0} (kind : StoreKind S) (shelf : List S) (old new : TablesView) (a : Answer) → ScanTurn kind shelf old new a → Keeps old new a
+scan kind shelf old new (Answer.Refused ScanBusy) h = same_scans old new (Answer.Refused ScanBusy) tt h.0
+scan kind shelf old new (Answer.Held who) h = same_scans old new (Answer.Held who) tt h.0
+scan kind shelf old new Answer.Scanning h = record {
   rises = stay old new h.starts.pins.number h.next_tx;
   maps = λ n live. same_maps old.kv new.kv h.starts.pins.number h.starts.pins.cells n;
   images = (ap (λ (b : BesideView). b.images) h.beside, ap (λ (b : BesideView). b.none) h.beside);
+  watched = ap (λ (b : BesideView). b.watched) h.beside;
   freed = ap (λ (g : GcView). g.freed) h.starts.is;
   answer = tt;
 }
@@ -466,98 +411,89 @@ does_freed g r = by (nat_eq r.left 0)
     by false = refl
 
 module _ {S : Type 0} (kind : StoreKind S) (before after : Dev S) (old new : TablesView) where
-  does : (n left : ℕ) (a : Answer) → IsUncollected a → DoesTurn kind before after old new n left → Scans old new a
+  does : (n left : ℕ) (a : Answer) → IsUncollected a → DoesTurn kind before after old new n left → Keeps old new a
   does n left a said h = record {
     rises = stay old new h.prunes.number h.keeps.next_tx;
     maps = h.prunes.maps;
     images = gc_images old.beside new.beside h.keeps.beside;
+    watched = ap (λ (b : BesideView). b.watched) h.keeps.beside;
     freed = ap (λ (g : GcView). g.freed) h.does.is ∙ does_freed old.beside.gc (run_on h.does.run n h.does.found);
     answer = said;
   }
 
-  fails : (n : ℕ) (a : Answer) → PieceFails kind before after old new n a → Scans old new a
+  fails : (n : ℕ) (a : Answer) → PieceFails kind before after old new n a → Keeps old new a
   fails n a h = record {
     rises = stay old new h.pruned.kv.number h.pruned.next_tx;
     maps = h.pruned.kv.maps;
     images = same_images old.beside new.beside h.pruned.beside;
+    watched = ap (λ (b : BesideView). b.watched) h.pruned.beside;
     freed = ap (λ (b : BesideView). b.gc.freed) h.pruned.beside;
     answer = fault_uncollected a (fault_is h.why a h.answer);
   }
 
-  piece : (n : ℕ) (a : Answer) → PieceTurn kind before after old new n a → Scans old new a
-  piece n (answer.Refused NoScan) h = same_scans old new (answer.Refused NoScan) tt h.0
-  piece n (answer.More left) h = does n left (answer.More left) tt h.1
-  piece n answer.Done h = does n 0 answer.Done tt h
+  piece : (n : ℕ) (a : Answer) → PieceTurn kind before after old new n a → Keeps old new a
+  piece n (Answer.Refused NoScan) h = same_scans old new (Answer.Refused NoScan) tt h.0
+  piece n (Answer.More left) h = does n left (Answer.More left) tt h.1
+  piece n Answer.Done h = does n 0 Answer.Done tt h
   piece n a h = fails n a h
 
   -- a collection moves what was freed
-  freed_moves : (k : ℕ) (a : Answer) → KeepsStore old new → Moves old new (event.Collect k) a
+  freed_moves : (k : ℕ) (a : Answer) → KeepsStore old new → Moves old new (Event.Collect k) a
   freed_moves k a h = record {
     rises = stay old new (same_store old.kv new.kv h.kv) h.keeps.next_tx;
     maps = λ n live. ap (λ (s : Store Key Value). metadata_at s n) h.kv;
     images = λ ne. gc_images old.beside new.beside h.keeps.beside;
+    watched = ap (λ (b : BesideView). b.watched) h.keeps.beside;
     numbers = λ is. absurd (cc);
     freed = λ ne. absurd (ne k refl);
     answer = λ ne. absurd (ne k refl);
     aged = λ other. absurd other;
   }
 
-  same_collect : (k : ℕ) (a : Answer) → new ≡ old → Moves old new (event.Collect k) a
-  same_collect k a is = subst (λ t. Moves old t (event.Collect k) a) (sym is) (record {
-    rises = stay old old refl refl;
-    maps = λ n live. refl;
-    images = λ ne. (refl, refl);
-    numbers = λ is. absurd (cc);
-    freed = λ ne. absurd (ne k refl);
-    answer = λ ne. absurd (ne k refl);
-    aged = λ other. absurd other;
-  })
+  same_collect : (k : ℕ) (a : Answer) → new ≡ old → Moves old new (Event.Collect k) a
+  same_collect k a is = freed_moves k a (subst (KeepsStore old) (sym is)
+      (record { kv = refl; keeps = record { beside = refl; clients = refl; next_tx = refl } }))
 
-  collect : (k : ℕ) (a : Answer) → CollectTurn kind before after old new k a → Moves old new (event.Collect k) a
-  collect k (answer.Refused NoServer) h = same_collect k (answer.Refused NoServer) h.0
-  collect k (answer.Refused NoScan) h = same_collect k (answer.Refused NoScan) h.0
-  collect k (answer.Collected n) h = freed_moves k (answer.Collected n) h.1.keeps
-  collect k (answer.FaultPunch i) h = freed_moves k (answer.FaultPunch i) h.1.keeps
+  collect : (k : ℕ) (a : Answer) → CollectTurn kind before after old new k a → Moves old new (Event.Collect k) a
+  collect k (Answer.Refused NoServer) h = same_collect k (Answer.Refused NoServer) h.0
+  collect k (Answer.Refused NoScan) h = same_collect k (Answer.Refused NoScan) h.0
+  collect k (Answer.Collected n) h = freed_moves k (Answer.Collected n) h.1.keeps
+  collect k (Answer.FaultPunch i) h = freed_moves k (Answer.FaultPunch i) h.1.keeps
   collect k a h = absurd h
 
 -- ---- each line
 tree_uncollected : (a : Answer) → IsTreeAnswer a → IsUncollected a
-tree_uncollected (answer.Collected n) h = absurd h
+tree_uncollected (Answer.Collected n) h = absurd h
 tree_uncollected a h = tt
 
-dump_uncollected : (a : Answer) → ((n : ℕ) → a ≢ answer.Collected n) → IsUncollected a
-dump_uncollected (answer.Collected n) none = none n refl
+dump_uncollected : (a : Answer) → ((n : ℕ) → a ≢ Answer.Collected n) → IsUncollected a
+dump_uncollected (Answer.Collected n) none = none n refl
 dump_uncollected a none = tt
 
 module _ {S : Type 0} (kind : StoreKind S) (t : Span S) (old new : CoreView) (sound : AreSound old.tables) (a : Answer) where
-  server : (k : ℕ) (to b : Bool) → MatchBool b (Switches old new k to a) ((a ≡ answer.Refused NoServer) × (new ≡ old)) → Plainly old.tables new.tables a
-  server k to true h =
-      same_plainly old.tables new.tables a (subst IsUncollected (sym h.answer) tt) (ap (λ (c : CoreView). c.tables) h.rest)
-  server k to false h = same_plainly old.tables new.tables a (subst IsUncollected (sym h.0) tt) (ap (λ (c : CoreView). c.tables) h.1)
+  server : (k : ℕ) (to b : Bool) → MatchBool b (Switches old new k to a) ((a ≡ Answer.Refused NoServer) × (new ≡ old)) → Plainly old.tables new.tables a
+  server k to true h = unchanged old.tables new.tables 0 sound (ap (λ (c : CoreView). c.tables) h.rest) a (subst IsUncollected (sym h.answer) tt)
+  server k to false h = unchanged old.tables new.tables 0 sound (ap (λ (c : CoreView). c.tables) h.1) a (subst IsUncollected (sym h.0) tt)
 
   pub line_moves : (e : Event) → LineTurn kind t old new e a → Moves old.tables new.tables e a
-  line_moves (event.Client c v) h =
-      plainly_moves old.tables new.tables (event.Client c v) a (λ is. absurd (cc))
+  line_moves (Event.Client c v) h =
+      plainly_moves old.tables new.tables (Event.Client c v) a (λ is. absurd (cc))
       (client old.tables new.tables c sound (seeing kind t (lent_of old new)) v a h.0)
-  line_moves (event.Plan j job p r) h =
-      plainly_moves old.tables new.tables (event.Plan j job p r) a (λ is. absurd (cc))
+  line_moves (Event.Plan j job p r) h =
+      plainly_moves old.tables new.tables (Event.Plan j job p r) a (λ is. absurd (cc))
       (plan old.tables new.tables j sound (seeing kind t (lent_of old new)) job p r a h.0)
-  line_moves (event.Put j) h =
-      plainly_moves old.tables new.tables (event.Put j) a (λ is. absurd (cc)) (put old.tables new.tables j sound a h.0)
-  line_moves (event.DropJob j) h =
-      plainly_moves old.tables new.tables (event.DropJob j) a (λ is. absurd (cc)) (drop old.tables new.tables j sound a h.0)
-  line_moves event.Scan h =
-      scans_move old.tables new.tables event.Scan a (λ is. absurd (cc)) (λ no. no) (scan kind t.before old.tables new.tables a h.0)
-  line_moves (event.Piece n) h = scans_move old.tables new.tables (event.Piece n) a (λ is. absurd (cc)) (λ no. no)
-      (piece kind h.0.before h.0.after old.tables new.tables n a h.0.did)
-  line_moves (event.Collect k) h = collect kind h.0.before h.0.after old.tables new.tables k a h.0.did
-  line_moves (event.Down k) h =
-      plainly_moves old.tables new.tables (event.Down k) a (λ is. absurd (cc)) (server k true (nat_lt k old.settings.servers) h)
-  line_moves (event.Up k) h =
-      plainly_moves old.tables new.tables (event.Up k) a (λ is. absurd (cc)) (server k false (nat_lt k old.settings.servers) h)
-  line_moves (event.Dump p) h =
-      plainly_moves old.tables new.tables (event.Dump p) a (λ is. absurd (cc))
+  line_moves (Event.Put j) h = plainly_moves old.tables new.tables (Event.Put j) a (λ is. absurd (cc)) (put old.tables new.tables j sound a h.0)
+  line_moves (Event.DropJob j) h = plainly_moves old.tables new.tables (Event.DropJob j) a (λ is. absurd (cc)) (drop old.tables new.tables j sound a h.0)
+  line_moves Event.Scan h = keeps_move old.tables new.tables Event.Scan a (λ is. absurd (cc)) (scan kind t.before old.tables new.tables a h.0)
+      (λ other. absurd other)
+  line_moves (Event.Piece n) h = keeps_move old.tables new.tables (Event.Piece n) a (λ is. absurd (cc))
+      (piece kind h.0.before h.0.after old.tables new.tables n a h.0.did) (λ other. absurd other)
+  line_moves (Event.Collect k) h = collect kind h.0.before h.0.after old.tables new.tables k a h.0.did
+  line_moves (Event.Down k) h = plainly_moves old.tables new.tables (Event.Down k) a (λ is. absurd (cc)) (server k true (nat_lt k old.settings.servers) h)
+  line_moves (Event.Up k) h = plainly_moves old.tables new.tables (Event.Up k) a (λ is. absurd (cc)) (server k false (nat_lt k old.settings.servers) h)
+  line_moves (Event.Dump p) h =
+      plainly_moves old.tables new.tables (Event.Dump p) a (λ is. absurd (cc))
       (stays old.tables new.tables 0 sound (h.0.stays 0) a (dump_uncollected a (uncollected (seeing kind t (lent_of old new)) old.tables new.tables p a h.0)))
-  line_moves event.Tree h = plainly_moves old.tables new.tables event.Tree a (λ is. absurd (cc))
-      (same_plainly old.tables new.tables a (tree_uncollected a h.2) (ap (λ (c : CoreView). c.tables) h.1))
-  line_moves event.Save h = save (AreUp old.replicas old.settings.servers) old.tables new.tables a sound h.0
+  line_moves Event.Tree h = plainly_moves old.tables new.tables Event.Tree a (λ is. absurd (cc))
+      (unchanged old.tables new.tables 0 sound (ap (λ (c : CoreView). c.tables) h.1) a (tree_uncollected a h.2))
+  line_moves Event.Save h = save (AreUp old.replicas old.settings.servers) old.tables new.tables a sound h.0

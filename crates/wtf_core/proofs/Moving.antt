@@ -1,24 +1,8 @@
 -- What a line does of a quiet ending, and a line that leaves it where it is.
-use Rattle.std.proofs.Common.{◌≡◌, ℕ, true, length, Option, None, Some, sym, ◌∙◌, ap, subst, inl, inr, ⊎_elim, arith}
-use Rattle.wtf_base.specs.declared.settings.Settings.{Settings}
-use Rattle.wtf_base.specs.Places.{Place}
-use Rattle.wtf_dev.specs.Store.{StoreKind}
-use Rattle.wtf_replica.specs.Bytes.{byte_at}
-use Rattle.wtf_replica.specs.Outs.{SameLengths}
-use Rattle.wtf_replica.specs.Spans.{Span}
-use Rattle.wtf_model.specs.declared.answer.Answer.{Answer}
-use Rattle.wtf_model.specs.declared.answer.Answer.TheVariants as answer
-use Rattle.wtf_model.specs.declared.event.Event.{Event}
-use Rattle.wtf_model.specs.declared.event.Event.TheVariants as event
-use Rattle.wtf_meta.specs.Contents.{Told}
-use Rattle.wtf_meta.specs.Maps.{metadata_at}
-use Rattle.wtf_gc.specs.Extents.{extents_cover}
-use Rattle.wtf_gc.specs.Views.{GcView, length_in}
-use Rattle.wtf_clients.specs.Views.{TablesView, metadata_now}
-use Rattle.wtf_clients.proofs.Lives.{number_live}
-use Rattle.wtf_core.specs.Quiet.{MapNames, AreIdle, IsAtRest, Stage, ScannedTwice, next_stage, HasScans, IsAtStage, FoundOnlyKept, LeavesKept, HasCollected}
-use Rattle.wtf_core.specs.Telling.{GoesOnQuietly}
-use Rattle.wtf_core.specs.Views.{CoreView}
+use Rattle.wtf_core.proofs.Common.{Settings, Place, StoreKind, byte_at, SameLengths, Span, Answer, Event, Told, metadata_at, extents_cover, GcView, length_in}
+use Rattle.wtf_core.proofs.Common.{TablesView, metadata_now, number_live, MapNames, AreIdle, IsAtRest, Stage, ScannedTwice, next_stage, HasScans, IsAtStage}
+use Rattle.wtf_core.proofs.Common.{FoundOnlyKept, LeavesKept, HasCollected, GoesOnQuietly, CoreView, ◌≡◌, ℕ, true, length, Option, None, Some, sym, ◌∙◌, ap}
+use Rattle.wtf_core.proofs.Common.{subst, inl, inr, ⊎_elim, arith, BesideView}
 use Rattle.wtf_core.proofs.Carried.{AllSameBases, ReadsSame, reads_same, names_on, size_same, length_same, stage_later}
 use Rattle.wtf_core.proofs.Idling.{idle_on, rests_on}
 
@@ -30,12 +14,11 @@ none_some o x none some = cc
 
 -- ---- a line of a quiet ending
 abbrev pub IsCollection : Event → Answer → Type 0
-IsCollection (event.Collect k) (answer.Collected n) = Unit {0}
+IsCollection (Event.Collect k) (Answer.Collected n) = Unit {0}
 IsCollection e a = ⊥
 
-pub collects : (e : Event) (a : Answer) (k n : ℕ) → e ≡ event.Collect k → a ≡ answer.Collected n → IsCollection e a
-collects e a k n is said =
-    subst (λ (x : Event). IsCollection x a) (sym is) (subst (λ (b : Answer). IsCollection (event.Collect k) b) (sym said) tt)
+pub collects : (e : Event) (a : Answer) (k n : ℕ) → e ≡ Event.Collect k → a ≡ Answer.Collected n → IsCollection e a
+collects e a k n is said = subst (λ (x : Event). IsCollection x a) (sym is) (subst (λ (b : Answer). IsCollection (Event.Collect k) b) (sym said) tt)
 
 -- tables in which nothing began, the same may be on the keeper, and the same is watched
 pub record SameRest (old new : TablesView) : Type 0 where
@@ -45,6 +28,24 @@ pub record SameRest (old new : TablesView) : Type 0 where
   pub none : new.beside.none ≡ old.beside.none
   pub watched : new.beside.watched ≡ old.beside.watched
   pub number : new.kv.number ≡ old.kv.number
+
+pub rest_of : (old new : TablesView) (b : BesideView) → new.clients ≡ old.clients
+    → new.beside ≡ record old.beside { gc = b.gc; scan_tx = b.scan_tx; scan_jobs = b.scan_jobs } → new.kv.number ≡ old.kv.number → SameRest old new
+rest_of old new b clients beside number = record {
+  clients = clients;
+  jobs = ap (λ (x : BesideView). x.jobs) beside;
+  images = ap (λ (x : BesideView). x.images) beside;
+  none = ap (λ (x : BesideView). x.none) beside;
+  watched = ap (λ (x : BesideView). x.watched) beside;
+  number = number;
+}
+
+-- stores and a core over a line that leaves files as long as they were, and the lists that bases are decoded to
+pub record InPlace {S : Type 0} (kind : StoreKind S) (t : Span S) (old new : CoreView) : Type 0 where
+  pub settings : new.settings ≡ old.settings
+  pub many : length t.after ≡ length t.before
+  pub lengths : SameLengths kind t.before t.after
+  pub same : AllSameBases old.settings.region (byte_at kind t.before) (byte_at kind t.after) old.tables.kv
 
 -- the same scan runs, and the same two have finished last
 pub record SameScans (old new : GcView) : Type 0 where
@@ -67,7 +68,7 @@ pub rest_later : (old new : TablesView) → SameRest old new → IsAtRest old �
 rest_later old new rest = rests_on old new rest.clients rest.jobs rest.images rest.none rest.watched rest.number
 
 module _ {S : Type 0} (kind : StoreKind S) (t : Span S) (old new : CoreView) (e : Event) (a : Answer) (m : Moves kind t old new e a) where
-  pub moves_quietly : ((k n : ℕ) → e ≡ event.Collect k → a ≡ answer.Collected n → Leaves kind t old new k) → GoesOnQuietly kind t old new e a
+  pub moves_quietly : ((k n : ℕ) → e ≡ Event.Collect k → a ≡ Answer.Collected n → Leaves kind t old new k) → GoesOnQuietly kind t old new e a
   moves_quietly leaves = record {
     on = λ s next is at. record { rests = rest_later old.tables new.tables m.rest at.rests; scans = m.scans s next is at.rests.idle at.scans };
     idle = λ s next is at.
@@ -80,26 +81,24 @@ module _ {S : Type 0} (kind : StoreKind S) (t : Span S) (old new : CoreView) (e 
   pub plainly : (IsCollection e a → ⊥) → GoesOnQuietly kind t old new e a
   plainly other = moves_quietly (λ k n is said. absurd (other (collects e a k n is said)))
 
-module _ {S : Type 0} (kind : StoreKind S) (t : Span S) (old new : CoreView) (settings : new.settings ≡ old.settings)
-    (many : length t.after ≡ length t.before) (lengths : SameLengths kind t.before t.after)
-    (same : AllSameBases old.settings.region (byte_at kind t.before) (byte_at kind t.after) old.tables.kv) where
+module _ {S : Type 0} (kind : StoreKind S) (t : Span S) (old new : CoreView) (place : InPlace kind t old new) where
   abbrev told : Told
   told = byte_at kind t.before
 
   abbrev later : Told
   later = byte_at kind t.after
 
-  long_on : (k f : ℕ) → length_in kind t.after k f ≡ length_in kind t.before k f
-  long_on = length_same kind t.before t.after many lengths
+  pub long_on : (k f : ℕ) → length_in kind t.after k f ≡ length_in kind t.before k f
+  long_on = length_same kind t.before t.after place.many place.lengths
 
   -- what the map now names of a server, and what counts as freed there, stays
   module _ (rest : SameRest old.tables new.tables) (now : metadata_now new.tables.kv ≡ metadata_now old.tables.kv)
       (freed : (p : Place) → extents_cover old.tables.beside.gc.freed p ≡ true → extents_cover new.tables.beside.gc.freed p ≡ true) where
     now_later : (p : Place) → MapNames old.settings.region told (metadata_now old.tables.kv) p
         → MapNames new.settings.region later (metadata_now new.tables.kv) p
-    now_later p h = subst (λ (s : Settings). MapNames s.region later (metadata_now new.tables.kv) p) (sym settings)
+    now_later p h = subst (λ (s : Settings). MapNames s.region later (metadata_now new.tables.kv) p) (sym place.settings)
         (names_on old.settings.region told later (metadata_now old.tables.kv) (metadata_now new.tables.kv) now
-        (same old.tables.kv.number (number_live old.tables.kv)) p h)
+        (place.same old.tables.kv.number (number_live old.tables.kv)) p h)
 
     pub still_collected : (k : ℕ) → HasCollected kind t.before old k → HasCollected kind t.after new k
     still_collected k had = record {
@@ -107,7 +106,7 @@ module _ {S : Type 0} (kind : StoreKind S) (t : Span S) (old new : CoreView) (se
       left = λ p on file below. ⊎_elim
           (λ gone. inl (freed p gone))
           (λ h. inr (now_later p h))
-          (had.left p on file (omega (arith, below, size_same kind t.before t.after many lengths k p.file)));
+          (had.left p on file (omega (arith, below, size_same kind t.before t.after place.many place.lengths k p.file)));
     }
 
   -- a line that leaves the scans leaves the stage
@@ -117,7 +116,8 @@ module _ {S : Type 0} (kind : StoreKind S) (t : Span S) (old new : CoreView) (se
   steady e a stage reads rest scans freed = record {
     rest = rest;
     scans = λ s next is idle h. subst (λ (x : Stage). HasScans kind t.after new x) (stage s next is)
-        (stage_later kind t.before t.after old new settings long_on reads same rest.number rest.images rest.watched scans.running scans.older scans.newer s h);
+        (stage_later kind t.before t.after old new place.settings long_on reads place.same rest.number rest.images rest.watched scans.running
+        scans.older scans.newer s h);
     stays = still_collected rest
         (ap (λ (n : ℕ). metadata_at new.tables.kv n) rest.number ∙ reads.maps old.tables.kv.number (number_live old.tables.kv)) freed;
   }
@@ -127,14 +127,8 @@ module _ {S : Type 0} (kind : StoreKind S) (t : Span S) (old new : CoreView) (se
   still e a stage is = steady e a stage
       (reads_same old.tables.kv new.tables.kv (ap (λ (x : TablesView). x.kv.number) is) (ap (λ (x : TablesView). x.kv.pins) is)
       (λ n live. ap (λ (x : TablesView). metadata_at x.kv n) is))
-      (record {
-        clients = ap (λ (x : TablesView). x.clients) is;
-        jobs = ap (λ (x : TablesView). x.beside.jobs) is;
-        images = ap (λ (x : TablesView). x.beside.images) is;
-        none = ap (λ (x : TablesView). x.beside.none) is;
-        watched = ap (λ (x : TablesView). x.beside.watched) is;
-        number = ap (λ (x : TablesView). x.kv.number) is;
-      })
+      (rest_of old.tables new.tables old.tables.beside (ap (λ (x : TablesView). x.clients) is) (ap (λ (x : TablesView). x.beside) is)
+      (ap (λ (x : TablesView). x.kv.number) is))
       (record {
         running = ap (λ (x : TablesView). x.beside.gc.running) is;
         older = ap (λ (x : TablesView). x.beside.gc.older) is;

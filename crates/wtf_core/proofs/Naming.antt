@@ -1,37 +1,11 @@
 -- Lines that need no store, and dropping old versions, keep what holds of the places of each byte that is named.
-use Rattle.std.proofs.Common.{◌≡◌, ℕ, Bool, true, List, [], Option, None, Some, refl, sym, ap, ◌∙◌, subst}
-use Rattle.std.specs.Prelude.{MatchOption}
-use Rattle.wtf_base.specs.declared.slice.Slice.{Slice}
+use Rattle.wtf_core.proofs.Common.{MatchOption, Slice, Store, Key, Value, Answer, Word, InTx, NoTx, NoJob, Verb, MapBytes, metadata_at, with_bytes}
+use Rattle.wtf_core.proofs.Common.{nothing_kept, All-nil, TxnView, begun, rebased, TxnBytes, try_refusal, JobView, RefusesJob, Puts, PutTurn, DropsJob}
+use Rattle.wtf_core.proofs.Common.{DropTurn, BesideView, TablesView, of_client, of_label, metadata_now, Seeing, AreSound, IsTidied, TablesBytes, NamesTables}
+use Rattle.wtf_core.proofs.Common.{Refuses, Begins, Commits, Retries, Tries, LoneTurn, TxnTurn, ClientTurn, txn_along, bytes_set, now_along, stays_bytes}
+use Rattle.wtf_core.proofs.Common.{ends_bytes, leaves_bytes, keeps_stays, puts_bytes, drops_bytes, now_bytes, begun_reaches, moved_reaches, ◌≡◌, ℕ, Bool, true}
+use Rattle.wtf_core.proofs.Common.{List, [], Option, None, Some, refl, sym, ap, ◌∙◌, subst}
 use Rattle.wtf_overlay.specs.Origin.{Place}
-use Rattle.wtf_kv.specs.Stores.{Store}
-use Rattle.wtf_values.specs.declared.key.Key.{Key}
-use Rattle.wtf_values.specs.declared.value.Value.{Value}
-use Rattle.wtf_model.specs.declared.answer.Answer.{Answer}
-use Rattle.wtf_model.specs.declared.answer.Answer.TheVariants as answer
-use Rattle.wtf_model.specs.declared.answer.Word.{Word}
-use Rattle.wtf_model.specs.declared.answer.Word.TheVariants.{InTx, NoTx, NoJob}
-use Rattle.wtf_model.specs.declared.event.Verb.{Verb}
-use Rattle.wtf_model.specs.declared.event.Verb.TheVariants as verb
-use Rattle.wtf_meta.specs.Bytes.{MapBytes}
-use Rattle.wtf_meta.specs.Maps.{metadata_at}
-use Rattle.wtf_meta.proofs.MapBytes.{with_bytes}
-use Rattle.wtf_meta.proofs.Nothing.{nothing_kept}
-use Rattle.std.proofs.lemmas.List.Elements.{All-nil}
-use Rattle.wtf_replay.specs.Views.{TxnView, begun, rebased}
-use Rattle.wtf_replay.specs.Insides.{TxnBytes}
-use Rattle.wtf_replay.specs.Refusals.{try_refusal}
-use Rattle.wtf_compact.specs.Jobs.{JobView}
-use Rattle.wtf_clients.specs.JobTurns.{RefusesJob, Puts, PutTurn, DropsJob, DropTurn}
-use Rattle.wtf_clients.specs.Views.{BesideView, TablesView, of_client, of_label, metadata_now}
-use Rattle.wtf_clients.specs.Seeing.{Seeing}
-use Rattle.wtf_clients.specs.Sounds.{AreSound, IsTidied}
-use Rattle.wtf_clients.specs.Named.{TablesBytes}
-use Rattle.wtf_clients.specs.Serves.{NamesTables}
-use Rattle.wtf_clients.specs.Turns.{Refuses, Begins, Commits, Retries, Tries, LoneTurn, TxnTurn, ClientTurn}
-use Rattle.wtf_clients.proofs.Naming.{txn_along, bytes_set, now_along, stays_bytes, ends_bytes, leaves_bytes}
-use Rattle.wtf_clients.proofs.Staying.{keeps_stays}
-use Rattle.wtf_clients.proofs.JobTurning.{puts_bytes, drops_bytes}
-use Rattle.wtf_clients.proofs.Lives.{now_bytes, begun_reaches, moved_reaches}
 use Rattle.wtf_core.proofs.Tidying.{base_same, live_same}
 
 module _ (P : List Place → Bool) (Q : Slice → Bool) (hole : P [] ≡ true) where
@@ -61,17 +35,15 @@ module _ (P : List Place → Bool) (Q : Slice → Bool) (hole : P [] ≡ true) w
       let is = turn.retried.is in
       let now : MapBytes P Q (metadata_now new.kv) = now_along P Q old.kv new.kv turn.retried.number turn.maps (now_bytes P Q old h) in
       let base : metadata_at new.kv n ≡ metadata_now new.kv = ap (metadata_at new.kv) (turn.retried.number_is ∙ sym turn.retried.number) in
-      let own : TxnBytes P Q new.kv (rebased x n) = record {
-        hand = record { base = subst (MapBytes P Q) (sym base) now; changes = tt; slices = nothing_kept P };
-        log = (h.each c x here).log;
-      } in
+      let own : TxnBytes P Q new.kv (rebased x n) =
+      record { hand = record { base = subst (MapBytes P Q) (sym base) now; changes = tt; slices = nothing_kept P }; log = (h.each c x here).log } in
       bytes_set P Q old new c (Some turn.later) sound turn.clients turn.maps (moved_reaches old.kv new.kv b n turn.retried.number_is turn.retried.pins) h now
       (λ y same. subst (TxnBytes P Q new.kv) (sym is ∙ (let e : turn.later ≡ y = cc in e)) own) turn.beside
 
   tries_bytes : (old new : TablesView) (c : ℕ) (x : TxnView) (a : Answer) → AreSound old → of_client old.clients c ≡ Some x → Tries old new c x a →
       TablesBytes P Q old → TablesBytes P Q new
-  tries_bytes old new c x (answer.Committed n) sound here turn h = commits_bytes old new c x n sound here turn h
-  tries_bytes old new c x (answer.Retry b n) sound here turn h = retries_bytes old new c x b n sound here turn h
+  tries_bytes old new c x (Answer.Committed n) sound here turn h = commits_bytes old new c x n sound here turn h
+  tries_bytes old new c x (Answer.Retry b n) sound here turn h = retries_bytes old new c x b n sound here turn h
   tries_bytes old new c x a sound here turn h = absurd turn
 
   refuses_bytes : (old new : TablesView) (c : ℕ) (w : Word) (a : Answer) → AreSound old → Refuses old new c w a → TablesBytes P Q old → TablesBytes P Q new
@@ -84,30 +56,29 @@ module _ (P : List Place → Bool) (Q : Slice → Bool) (hole : P [] ≡ true) w
 
 -- lines that need no store: of a client that begins, attempts or aborts
 abbrev pub IsLocal : Verb → Type 0
-IsLocal verb.Begin = Unit {0}
-IsLocal verb.Try = Unit {0}
-IsLocal verb.Abort = Unit {0}
+IsLocal Verb.Begin = Unit {0}
+IsLocal Verb.Try = Unit {0}
+IsLocal Verb.Abort = Unit {0}
 IsLocal v = ⊥
 
 pub local_names : (z : Seeing) (old new : TablesView) (c : ℕ) (v : Verb) (a : Answer) →
     IsLocal v → AreSound old → ClientTurn z old new c v a → NamesTables old new
 local_names z old new c v a local sound turn P Q hole h = by (of_client old.clients c) v local refl turn
   where
-    by : (o : Option TxnView) (u : Verb) → IsLocal u → of_client old.clients c ≡ o
-        → MatchOption o (LoneTurn z old new c u a) (λ x. TxnTurn z old new c x u a) →
+    by : (o : Option TxnView) (u : Verb) → IsLocal u → of_client old.clients c ≡ o → MatchOption o (LoneTurn z old new c u a) (λ x. TxnTurn z old new c x u a) →
         TablesBytes P Q new
-    by None verb.Begin l here t = begins_bytes P Q hole old new c a sound t h
-    by None verb.Try l here t = refuses_bytes P Q hole old new c NoTx a sound t h
-    by None verb.Abort l here t = refuses_bytes P Q hole old new c NoTx a sound t h
-    by None verb.Step l here t = absurd l
-    by None verb.Commit l here t = absurd l
-    by None (verb.Call o) l here t = absurd l
-    by (Some x) verb.Begin l here t = refuses_bytes P Q hole old new c InTx a sound t h
-    by (Some x) verb.Try l here t = try_bytes P Q hole (try_refusal x) old new c x a sound here t h
-    by (Some x) verb.Abort l here t = leaves_bytes P Q old new old.kv c x sound t.1 refl h
-    by (Some x) verb.Step l here t = absurd l
-    by (Some x) verb.Commit l here t = absurd l
-    by (Some x) (verb.Call o) l here t = absurd l
+    by None Verb.Begin l here t = begins_bytes P Q hole old new c a sound t h
+    by None Verb.Try l here t = refuses_bytes P Q hole old new c NoTx a sound t h
+    by None Verb.Abort l here t = refuses_bytes P Q hole old new c NoTx a sound t h
+    by None Verb.Step l here t = absurd l
+    by None Verb.Commit l here t = absurd l
+    by None (Verb.Call o) l here t = absurd l
+    by (Some x) Verb.Begin l here t = refuses_bytes P Q hole old new c InTx a sound t h
+    by (Some x) Verb.Try l here t = try_bytes P Q hole (try_refusal x) old new c x a sound here t h
+    by (Some x) Verb.Abort l here t = leaves_bytes P Q old new old.kv c x sound t.1 refl h
+    by (Some x) Verb.Step l here t = absurd l
+    by (Some x) Verb.Commit l here t = absurd l
+    by (Some x) (Verb.Call o) l here t = absurd l
 
 -- so do a put and a drop of a job
 module _ (old new : TablesView) (j : ℕ) (sound : AreSound old) (a : Answer) where

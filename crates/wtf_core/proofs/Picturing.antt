@@ -1,62 +1,23 @@
 -- What a keeper holds goes on standing for one of the trees that the machine may have saved.
-use Rattle.std.proofs.Common.{◌≡◌, ◌≢◌, ◌≤◌, ◌^◌, ℕ, true, List, [], ◌∷◌, ◌++◌, Some, refl, sym, ap, ◌∙◌, subst, inl}
-use Rattle.std.proofs.Common.{inr, ⊎_elim, arith}
-use Rattle.std.specs.List.{Contains}
-use Rattle.std.specs.Option.{option_map}
-use Rattle.std.proofs.lemmas.List.Elements.{Contains-append_left, Contains-push}
-use Rattle.wtf_base.specs.declared.settings.Settings.{Settings}
-use Rattle.wtf_base.specs.Limits.{AreSettings}
-use Rattle.wtf_dev.specs.Store.{StoreKind}
-use Rattle.wtf_replica.specs.Bytes.{byte_at}
-use Rattle.wtf_replica.specs.Spans.{Span}
-use Rattle.wtf_values.specs.declared.key.Key.{Key}
-use Rattle.wtf_model.specs.declared.answer.Answer.{Answer}
-use Rattle.wtf_model.specs.declared.answer.Answer.TheVariants as answer
-use Rattle.wtf_model.specs.declared.event.Event.{Event}
-use Rattle.wtf_model.specs.declared.event.Event.TheVariants as event
-use Rattle.wtf_model.specs.Tree.{Tree, root_alone}
-use Rattle.wtf_model.specs.Machines.{Machine}
-use Rattle.wtf_model.specs.Steps.{after, saved}
-use Rattle.wtf_model.proofs.MachineLaws.{with_job-rest, put_in_place-rest, dropped-rest, scanning-rest, scanned-rest}
-use Rattle.wtf_meta.specs.Contents.{Told}
-use Rattle.wtf_meta.specs.Maps.{Map, metadata_at}
-use Rattle.wtf_meta.specs.Trees.{Stands}
-use Rattle.wtf_meta.proofs.Telling.{TellsOn}
-use Rattle.wtf_image.specs.Kept.{IsKept}
-use Rattle.wtf_image.specs.Lookups.{plain, row_at}
-use Rattle.wtf_image.specs.Rows.{ImageRows}
-use Rattle.wtf_image.proofs.Forms.{text_some}
-use Rattle.wtf_image.proofs.PlainLaws.{same_optional}
-use Rattle.wtf_image.proofs.SaveMap.{is_kept, says_all}
-use Rattle.wtf_image.proofs.StandsLaws.{stands_savable}
-use Rattle.wtf_clients.specs.Views.{TablesView, metadata_now}
-use Rattle.wtf_core.specs.Views.{CoreView}
-use Rattle.wtf_clients.specs.Sounds.{AreSound}
-use Rattle.wtf_clients.specs.Standing.{TablesStand}
-use Rattle.wtf_clients.specs.Saves.{SaveTurn}
-use Rattle.wtf_core.specs.Turns.{LineTurn}
-use Rattle.wtf_clients.specs.Keeping.{KeeperSpan, Hands, KeeperFailed, KeeperTurn, IsImageAt, IsHeldBy, HoldsKept}
-use Rattle.wtf_clients.proofs.Images.{kept_pinned}
-use Rattle.wtf_clients.proofs.Lives.{pinned_live}
-use Rattle.wtf_core.specs.Telling.{KeepsImages}
-use Rattle.wtf_core.specs.Pictured.{IsImageOfTree, IsImageOfOne, HoldsTree}
-use Rattle.wtf_core.proofs.Moves.{GoesLive, goes_live, line_moves}
-use Rattle.wtf_core.proofs.Holding.{KeeperLaws, handed_one}
-use Rattle.wtf_core.proofs.Stamped.{event_stamped}
-use Rattle.wtf_core.proofs.Taking.{same_rows}
-use Rattle.wtf_clients.proofs.Later.{Stands-later}
+use Rattle.wtf_core.proofs.Common.{Contains, Settings, ImageRows, text_some, says_all, CoreView, AreSound, SaveTurn, LineTurn, IsImageAt, HoldsKept, HoldsTree}
+use Rattle.wtf_core.proofs.Common.{option_map, StoreKind, root_alone, TablesView, TablesStand, KeeperSpan, KeeperTurn, kept_pinned, pinned_live, KeepsImages, ℕ}
+use Rattle.wtf_core.proofs.Common.{Contains-append_left, Contains-push, byte_at, with_job-rest, put_in_place-rest, scanning-rest, same_optional, stands_savable}
+use Rattle.wtf_core.proofs.Common.{AreSettings, dropped-rest, scanned-rest, metadata_at, metadata_now, KeeperFailed, IsImageOfTree, IsImageOfOne, Stands-later}
+use Rattle.wtf_core.proofs.Common.{Span, Key, Tree, Told, Map, ◌≡◌, ◌≢◌, ◌≤◌, ◌^◌, true, List, [], ◌∷◌, ◌++◌, Some, refl, sym, ap, ◌∙◌, inl, inr}
+use Rattle.wtf_core.proofs.Common.{Answer, Event, Machine, after, saved, Stands, TellsOn, IsKept, plain, row_at, is_kept, Hands, IsHeldBy, subst, ⊎_elim, arith}
+use Rattle.wtf_core.proofs.{Moves.GoesLive, Moves.goes_live, Moves.line_moves, Holding.KeeperLaws, Holding.handed_one, Stamped.event_stamped, Taking.same_rows}
 
 -- ---- only a save changes the trees that may be saved
-event_may : (m : Machine) (e : Event) (a : Answer) → e ≢ event.Save → (after m e a).may_be_saved ≡ m.may_be_saved
-event_may m (event.Client c v) a ne = (event_stamped m (event.Client c v) a tt tt).may ne
-event_may m (event.Plan j kind p r) a ne = ap (λ (x : Machine). x.may_be_saved) (with_job-rest m j kind p r a)
-event_may m (event.Put j) a ne = ap (λ (x : Machine). x.may_be_saved) (put_in_place-rest m j a)
-event_may m (event.DropJob j) a ne = ap (λ (x : Machine). x.may_be_saved) (dropped-rest m j a)
-event_may m event.Scan a ne = ap (λ (x : Machine). x.may_be_saved) (scanning-rest m a)
-event_may m (event.Piece k) a ne = ap (λ (x : Machine). x.may_be_saved) (scanned-rest m a)
-event_may m (event.Down k) a ne = (event_stamped m (event.Down k) a tt tt).may ne
-event_may m (event.Up k) a ne = (event_stamped m (event.Up k) a tt tt).may ne
-event_may m event.Save a ne = absurd (ne refl)
+event_may : (m : Machine) (e : Event) (a : Answer) → e ≢ Event.Save → (after m e a).may_be_saved ≡ m.may_be_saved
+event_may m (Event.Client c v) a ne = (event_stamped m (Event.Client c v) a tt tt).may ne
+event_may m (Event.Plan j kind p r) a ne = ap (λ (x : Machine). x.may_be_saved) (with_job-rest m j kind p r a)
+event_may m (Event.Put j) a ne = ap (λ (x : Machine). x.may_be_saved) (put_in_place-rest m j a)
+event_may m (Event.DropJob j) a ne = ap (λ (x : Machine). x.may_be_saved) (dropped-rest m j a)
+event_may m Event.Scan a ne = ap (λ (x : Machine). x.may_be_saved) (scanning-rest m a)
+event_may m (Event.Piece k) a ne = ap (λ (x : Machine). x.may_be_saved) (scanned-rest m a)
+event_may m (Event.Down k) a ne = (event_stamped m (Event.Down k) a tt tt).may ne
+event_may m (Event.Up k) a ne = (event_stamped m (Event.Up k) a tt tt).may ne
+event_may m Event.Save a ne = absurd (ne refl)
 event_may m e a ne = refl
 
 -- ---- the trees of images
@@ -76,15 +37,13 @@ module _ (told later : Told) (on : TellsOn told later) where
   one_later bytes may more on_list (inr (t, there, image)) = inr (t, on_list t there, image_later bytes t image)
 
 module _ {S : Type 0} (kind : StoreKind S) (span : Span S) (k : KeeperSpan) (laws : KeeperLaws k) (settings : Settings) (old new : TablesView)
-    (told later : Told) (on : TellsOn told later) (m : Machine)
-    (limits : AreSettings settings.servers settings.replicas settings.region) (begun_one : AreSound old) (few : old.kv.number ≤ 2 ^ 62)
-    (next : old.next_tx ≤ 2 ^ 62) (st : TablesStand settings.region told old m) where
+    (told later : Told) (on : TellsOn told later) (m : Machine) (limits : AreSettings settings.servers settings.replicas settings.region)
+    (begun_one : AreSound old) (few : old.kv.number ≤ 2 ^ 62) (next : old.next_tx ≤ 2 ^ 62) (st : TablesStand settings.region told old m) where
   -- the new image is that of the tree now
   handed_tree : (hands : Hands kind span k settings old) → IsImageOfTree later hands.bytes m.now
   handed_tree hands =
       let kept : IsKept old.kv settings old.next_tx hands.bytes =
-      is_kept old.kv settings old.next_tx hands.bytes hands.image limits few next
-      (stands_savable settings.region told old.next_tx 0 (metadata_now old.kv) m.now
+      is_kept old.kv settings old.next_tx hands.bytes hands.image limits few next (stands_savable settings.region told old.next_tx 0 (metadata_now old.kv) m.now
       (st.later old.next_tx (omega arith)) old.next_tx begun_one.begun st.before) in
       let region : kept.rows.header.region ≡ settings.region = ap (λ h. h.region) kept.header in
       let begins : kept.rows.header.next_tx ≡ old.next_tx = ap (λ h. h.next_tx) kept.header in
@@ -115,12 +74,12 @@ module _ {S : Type 0} (kind : StoreKind S) (span : Span S) (k : KeeperSpan) (law
       (failed.hands.bytes, holds ∙ ap Some (sym same), inr (m.now, Contains-push m.may_be_saved m.now, handed_tree failed.hands)))
       ((laws.kept (failed.hands.bytes ∷ []) failed.hands.handed).bytes bytes held)
 
-  save_tree : (Up : Type 0) (a : Answer) → SaveTurn Up old new a → KeeperTurn kind span k settings old new event.Save a → k.before.tells ≡ true
+  save_tree : (Up : Type 0) (a : Answer) → SaveTurn Up old new a → KeeperTurn kind span k settings old new Event.Save a → k.before.tells ≡ true
       → HoldsTree k.before told m.may_be_saved → HoldsTree k.after later (saved m a).may_be_saved
-  save_tree Up (answer.Saved n) turn did tells held = (did.hands.bytes, did.held tells, inr (m.now, Contains-push [] m.now, handed_tree did.hands))
-  save_tree Up answer.FaultSave turn (inl did) tells held = untouched_tree (m.may_be_saved ++ m.now ∷ [])
+  save_tree Up (Answer.Saved n) turn did tells held = (did.hands.bytes, did.held tells, inr (m.now, Contains-push [] m.now, handed_tree did.hands))
+  save_tree Up Answer.FaultSave turn (inl did) tells held = untouched_tree (m.may_be_saved ++ m.now ∷ [])
       (λ t there. Contains-append_left m.may_be_saved (m.now ∷ []) t there) did.untouched held
-  save_tree Up answer.FaultSave turn (inr did) tells held = failed_tree did held
+  save_tree Up Answer.FaultSave turn (inr did) tells held = failed_tree did held
   save_tree Up a turn did tells held = absurd turn
 
 -- ---- a line that leaves the keeper
@@ -162,10 +121,8 @@ module _ {S : Type 0} (kind : StoreKind S) (span : Span S) (old new : CoreView) 
         text = image.text;
         says = image.says;
         stands = λ tx le.
-            subst (λ b. Stands b later tx 0 image.map t) (sym region)
-            (subst (λ w. Stands old.settings.region later tx 0 w t) (maps ∙ sym map)
-            (keeps n there still tx t
-            (subst (λ w. Stands old.settings.region told tx 0 w t) map
+            subst (λ b. Stands b later tx 0 image.map t) (sym region) (subst (λ w. Stands old.settings.region later tx 0 w t) (maps ∙ sym map)
+            (keeps n there still tx t (subst (λ w. Stands old.settings.region told tx 0 w t) map
             (subst (λ b. Stands b told tx 0 image.map t) region (image.stands tx le)))));
       }
 
@@ -186,18 +143,17 @@ module _ {S : Type 0} (kind : StoreKind S) (span : Span S) (k : KeeperSpan) (law
     (limits : AreSettings old.settings.servers old.settings.replicas old.settings.region) (sound : AreSound old.tables) (few : old.tables.kv.number ≤ 2 ^ 62)
     (next : old.tables.next_tx ≤ 2 ^ 62)
     (st : TablesStand old.settings.region (byte_at kind span.before) old.tables m) (keeps : KeepsImages kind span old new) (a : Answer) where
-  other_tree : (e : Event) → e ≢ event.Save → LineTurn kind span old new e a → k.untouched → HoldsKept k.before old.settings old.tables
+  other_tree : (e : Event) → e ≢ Event.Save → LineTurn kind span old new e a → k.untouched → HoldsKept k.before old.settings old.tables
       → HoldsTree k.before (byte_at kind span.before) m.may_be_saved → HoldsTree k.after (byte_at kind span.after) (after m e a).may_be_saved
   other_tree e ne turn untouched kept held =
       kept_tree kind span old new m sound st keeps (goes_live old.tables new.tables e a (line_moves kind span old new sound a e turn) ne)
       k laws m.may_be_saved (after m e a).may_be_saved
       (λ t there. subst (λ l. Contains l t) (sym (event_may m e a ne)) there) untouched kept held
 
-  pub line_tree : (e : Event) → (((j : ℕ) → e ≢ event.Collect j) → TellsOn (byte_at kind span.before) (byte_at kind span.after))
+  pub line_tree : (e : Event) → (((j : ℕ) → e ≢ Event.Collect j) → TellsOn (byte_at kind span.before) (byte_at kind span.after))
       → LineTurn kind span old new e a → KeeperTurn kind span k old.settings old.tables new.tables e a
       → k.before.tells ≡ true → HoldsKept k.before old.settings old.tables
       → HoldsTree k.before (byte_at kind span.before) m.may_be_saved → HoldsTree k.after (byte_at kind span.after) (after m e a).may_be_saved
-  line_tree event.Save on turn did tells kept held = save_tree kind span k laws old.settings old.tables new.tables (byte_at kind span.before)
-      (byte_at kind span.after)
-      (on (λ j is. absurd (cc))) m limits sound few next st _ a turn.0 did tells held
+  line_tree Event.Save on turn did tells kept held = save_tree kind span k laws old.settings old.tables new.tables (byte_at kind span.before)
+      (byte_at kind span.after) (on (λ j is. absurd (cc))) m limits sound few next st _ a turn.0 did tells held
   line_tree e on turn did tells kept held = other_tree e (λ is. absurd (cc)) turn did kept held

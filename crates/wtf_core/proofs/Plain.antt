@@ -1,60 +1,15 @@
 -- Lines that are refused, that begin a transaction or log a call, and aborts: the tables stay sound and stand for the machine.
 -- NSDI 2016, section 2.6.
-use Rattle.std.proofs.Common.{◌≡◌, ℕ, ◌+◌, ◌*◌, ◌++◌, Bool, true, false, length, take, List, [], ◌∷◌, None, Some, refl, sym, ap, ◌∙◌, subst, inl, inr, arith}
-use Rattle.std.specs.Prelude.{if◌then◌else◌}
-use Rattle.std.specs.Bool.{MatchBool}
-use Rattle.std.proofs.Math.Seq.{take-length}
-use Rattle.std.proofs.lemmas.Bool.{eqb-true}
-use Rattle.std.proofs.lemmas.List.{length_push, append_cancel_left}
-use Rattle.std.specs.FinMap.{get}
-use Rattle.wtf_base.specs.declared.ids.InodeId.{InodeId}
-use Rattle.wtf_kv.specs.Stores.{Store, versions_of}
-use Rattle.wtf_values.specs.declared.key.Key.{Key}
-use Rattle.wtf_values.specs.declared.key.Key.TheVariants.{Inode}
-use Rattle.wtf_values.specs.declared.value.Value.{Value}
-use Rattle.wtf_values.specs.Keys.{key_cmp}
-use Rattle.wtf_model.specs.declared.limits.TheConstants.{MAX_REGIONS}
-use Rattle.wtf_model.specs.declared.answer.Answer.{Answer}
-use Rattle.wtf_model.specs.declared.answer.Answer.TheVariants as answer
-use Rattle.wtf_model.specs.declared.answer.Word.{Word}
-use Rattle.wtf_model.specs.declared.answer.Word.TheVariants.{NoTx}
-use Rattle.wtf_model.specs.declared.op.Op.{Op}
-use Rattle.wtf_model.specs.declared.event.Verb.TheVariants as verb
-use Rattle.wtf_model.specs.Session.{Session, fresh}
-use Rattle.wtf_model.specs.Tree.{Tree}
-use Rattle.wtf_model.specs.Call.{call}
-use Rattle.wtf_model.specs.Transaction.{Transaction, answers_of, session_after}
-use Rattle.wtf_model.specs.Machines.{Machine, cap_of, due}
-use Rattle.wtf_model.specs.Lawful.{MayCall, MayAsk, MayFail}
-use Rattle.wtf_model.specs.Steps.{IsLogged, is_logged, with_transaction, begun as machine_begun, logged, called, aborted}
-use Rattle.wtf_model.proofs.Laws.{get-number_same, get-number_other, answers_from-push}
-use Rattle.wtf_log.specs.Calls.{with_call}
-use Rattle.wtf_meta.specs.Contents.{Told}
-use Rattle.wtf_meta.specs.Maps.{metadata_at, seen}
-use Rattle.wtf_meta.specs.Sessions.{Holds}
-use Rattle.wtf_meta.specs.Calls.{Caller, cap_for}
-use Rattle.wtf_meta.specs.Trees.{Stands}
-use Rattle.wtf_meta.proofs.Telling.{TellsOn}
-use Rattle.wtf_replay.specs.Views.{TxnView, begun, is_txn_live}
-use Rattle.wtf_replay.specs.Refusals.{call_refusal}
-use Rattle.wtf_replay.specs.Fits.{IsFit}
-use Rattle.wtf_replay.specs.Sounds.{LogStands, caller_at}
-use Rattle.wtf_replay.proofs.Deviating.{at_base}
-use Rattle.wtf_clients.specs.Views.{TablesView, of_client, metadata_now}
-use Rattle.wtf_clients.specs.Seeing.{Seeing}
-use Rattle.wtf_clients.specs.Sounds.{AreSound}
-use Rattle.wtf_clients.specs.Touched.{SinceBase}
-use Rattle.wtf_clients.specs.Standing.{StandsForTxn, StandsForSlot, TablesStand}
-use Rattle.wtf_clients.specs.Turns.{AreTrue, Refuses, Begins, Calls, CallFails, Ends}
-use Rattle.wtf_clients.proofs.Lists.{sets_same}
-use Rattle.wtf_clients.proofs.SinceLaws.{since_none}
-use Rattle.wtf_clients.proofs.Frames.{stands_kept}
-use Rattle.wtf_clients.proofs.Images.{before_none}
-use Rattle.wtf_clients.proofs.Later.{Stands-later}
-use Rattle.wtf_clients.proofs.Soundness.{begins_turned}
-use Rattle.wtf_clients.proofs.Staying.{IsFault, fault_is, keeps_stays, stays_stand}
-use Rattle.wtf_core.proofs.Machines.{cap_is}
-use Rattle.wtf_core.proofs.Ending.{txn_in, done_all, leaves_stand, goes_stand}
+use Rattle.wtf_core.proofs.Common.{if◌then◌else◌, append_cancel_left, Op, session_after, with_transaction, get-number_same, get-number_other, answers_from-push}
+use Rattle.wtf_core.proofs.Common.{MatchBool, answers_of, is_logged, with_call, LogStands, caller_at, TablesView, of_client, SinceBase, CallFails, since_none}
+use Rattle.wtf_core.proofs.Common.{take-length, length_push, versions_of, call_refusal, metadata_now, StandsForTxn, StandsForSlot, Stands-later, begins_turned}
+use Rattle.wtf_core.proofs.Common.{eqb-true, key_cmp, Session, Machine, MayCall, MayFail, IsLogged, aborted, cap_for, TellsOn, AreSound, sets_same, fault_is, ℕ}
+use Rattle.wtf_core.proofs.Common.{get, Key, due, ◌≡◌, ◌+◌, ◌*◌, ◌++◌, Bool, true, take, List, [], ◌∷◌, None, Some, refl, sym, ap, ◌∙◌, inl, inr}
+use Rattle.wtf_core.proofs.Common.{InodeId, MAX_REGIONS, Transaction, metadata_at, is_txn_live, TablesStand, stands_kept, before_none, keeps_stays, stays_stand}
+use Rattle.wtf_core.proofs.Common.{Store, Inode, Value, Word, NoTx, Verb, fresh, Tree, call, Told, seen, Holds, begun, IsFit, Calls, Ends, false, subst, arith}
+use Rattle.wtf_core.proofs.Common.{Answer, cap_of, MayAsk, logged, called, Caller, Stands, TxnView, at_base, Seeing, AreTrue, Refuses, Begins, IsFault, length}
+use Rattle.wtf_model.specs.Steps.{begun as machine_begun}
+use Rattle.wtf_core.proofs.{Machines.cap_is, Ending.txn_in, Ending.done_all, Ending.leaves_stand, Ending.goes_stand}
 
 -- ---- a line that is refused
 module _ (old new : TablesView) (c : ℕ) (w : Word) (a : Answer) (sound : AreSound old) (refuses : Refuses old new c w a) where
@@ -66,7 +21,7 @@ module _ (old new : TablesView) (c : ℕ) (w : Word) (a : Answer) (sound : AreSo
 pub tables_later : (size : ℕ) (told later : Told) (tables : TablesView) (m : Machine) → AreSound tables → TablesStand size told tables m → TellsOn told later
     → TablesStand size later tables m
 tables_later size told later tables m sound stands on =
-    refuses_stand tables tables 0 NoTx (answer.Refused NoTx) sound
+    refuses_stand tables tables 0 NoTx (Answer.Refused NoTx) sound
     (record { answer = refl; keeps = record { clients = sets_same 0 tables.clients tables.clients refl; kv = refl; next_tx = refl; beside = refl } })
     size told later m stands on
 
@@ -74,11 +29,11 @@ tables_later size told later tables m sound stands on =
 module _ (old new : TablesView) (c : ℕ) (a : Answer) (sound : AreSound old) (none : of_client old.clients c ≡ None) (begins : Begins old new c a) where
   -- the machine may answer so, and they stand for it with a transaction that begins on the tree now
   pub begins_stand : (size : ℕ) (told later : Told) (m : Machine) → TablesStand size told old m → TellsOn told later
-      → MayAsk m None verb.Begin a × TablesStand size later new (machine_begun m c a)
+      → MayAsk m None Verb.Begin a × TablesStand size later new (machine_begun m c a)
   begins_stand size told later m st on =
       let x : TxnView = begun old.next_tx old.kv.number in
       let t : Transaction = record { stamp = m.next_stamp; base = m.number; tree = m.now; ops = []; shown = []; replayed = 0; touched = [] } in
-      let after : Machine = machine_begun m c (answer.Begun old.kv.number) in
+      let after : Machine = machine_begun m c (Answer.Begun old.kv.number) in
       let map : (n : ℕ) → metadata_at new.kv n ≡ metadata_at old.kv n = λ n. ap (λ (k : Store Key Value). metadata_at k n) begins.kv in
       let number : new.kv.number ≡ old.kv.number = ap (λ (k : Store Key Value). k.number) begins.kv in
       let now_is : metadata_now new.kv ≡ metadata_now old.kv = ap (λ (k : Store Key Value). metadata_now k) begins.kv in
@@ -95,7 +50,7 @@ module _ (old new : TablesView) (c : ℕ) (a : Answer) (sound : AreSound old) (n
         now = subst (λ v. Stands size later old.next_tx 0 v m.now) (sym now_is) fresh_tree;
         since = subst (λ n. SinceBase new.kv old.next_tx n []) number (since_none new.kv old.next_tx unseen);
       } in (
-        begins.answer ∙ ap answer.Begun (sym st.number),
+        begins.answer ∙ ap Answer.Begun (sym st.number),
         subst (λ r. TablesStand size later new (machine_begun m c r)) (sym begins.answer)
             (stands_kept size told later old new m after c (Some x) sound st on (begins_turned old new c a sound none begins) number
             (λ q. ap (λ (k : Store Key Value). versions_of key_cmp k q) begins.kv)
@@ -130,8 +85,7 @@ last_answer cap tree ops shown o a before all =
 
 -- all of the calls answer what was shown, where all are done
 all_answers : (size : ℕ) (kv : Store Key Value) (told : Told) (x : TxnView) (ops : List (Op (List ℕ))) (tree : Tree) → LogStands size kv told x ops → IsFit kv x
-    → x.replayed ≡ length x.log.ops
-    → Stands size told x.tx 0 (metadata_at kv x.at.base) tree → answers_of (MAX_REGIONS * size) tree ops ≡ x.log.shown
+    → x.replayed ≡ length x.log.ops → Stands size told x.tx 0 (metadata_at kv x.at.base) tree → answers_of (MAX_REGIONS * size) tree ops ≡ x.log.shown
 all_answers size kv told x ops tree sound fit live stands =
     let cap : ℕ = MAX_REGIONS * size in
     let ran = at_base size kv told x ops sound tree stands in
@@ -144,8 +98,7 @@ called_is : (m : Machine) (c : ℕ) (t : Transaction) (o : Op (List ℕ)) (a : A
 called_is m c t o a h = ap (λ b. if b then with_transaction m c (logged t o a) else m) (is_true_of (is_logged a) h)
 
 module _ (z : Seeing) (old new : TablesView) (c : ℕ) (x : TxnView) (o : Op (List ℕ))
-    (a : Answer)
-    (sound : AreSound old) (here : of_client old.clients c ≡ Some x) (calls : Calls z old new c x o a) where
+    (a : Answer) (sound : AreSound old) (here : of_client old.clients c ≡ Some x) (calls : Calls z old new c x o a) where
   -- the answer is due to the machine's transaction, which logs it too
   pub calls_stand : (m : Machine) (t : Transaction) → m.settings.region ≡ z.size → TablesStand z.size z.told old m → TellsOn z.told z.later
       → get m.transactions c ≡ Some t → call_refusal x ≡ None
@@ -174,16 +127,15 @@ module _ (z : Seeing) (old new : TablesView) (c : ℕ) (x : TxnView) (o : Op (Li
         inl is_due,
         subst (λ u. TablesStand z.size z.later new u) (sym (called_is m c t o a is.answer))
             (goes_stand old new c x y sound here calls.keeps is.tx is.grows.base is.ended calls.fit z.size z.told z.later m t (logged t o a) st on there
-            calls_are refl refl refl
-            (ap (λ l. l ++ a ∷ []) txn.shown ∙ sym shown) (ap (λ n. n + 1) txn.replayed ∙ sym is.replayed)),
+            calls_are refl refl refl (ap (λ l. l ++ a ∷ []) txn.shown ∙ sym shown) (ap (λ n. n + 1) txn.replayed ∙ sym is.replayed)),
       )
 
 -- a fault is answered: it is not logged
 fault_unlogged : (a : Answer) → IsFault a → is_logged a ≡ false
-fault_unlogged (answer.FaultRead k) h = refl
-fault_unlogged answer.FaultWrite h = refl
-fault_unlogged (answer.FaultPunch k) h = refl
-fault_unlogged (answer.Damaged k) h = refl
+fault_unlogged (Answer.FaultRead k) h = refl
+fault_unlogged Answer.FaultWrite h = refl
+fault_unlogged (Answer.FaultPunch k) h = refl
+fault_unlogged (Answer.Damaged k) h = refl
 fault_unlogged a h = absurd h
 
 -- what the calls that are done have left of the tree at the base is what the next call runs on
@@ -196,17 +148,14 @@ module _ (size : ℕ) (kv : Store Key Value) (told : Told) (x : TxnView) (t : Tr
   next_may servers o a may =
       let ran = at_base size kv told x t.ops sound t.tree stands in
       subst (λ ops. MayFail servers o (call (MAX_REGIONS * size) (session_after (MAX_REGIONS * size) t.tree ops) o).answer a)
-      (done_all size kv told x t.ops sound live)
-      (may (caller_at size x.tx (length (take x.replayed t.ops))) told
+      (done_all size kv told x t.ops sound live) (may (caller_at size x.tx (length (take x.replayed t.ops))) told
       (session_after (MAX_REGIONS * size) t.tree (take x.replayed t.ops)) refl ran.stands ran.holds)
 
 module _ (z : Seeing) (old new : TablesView) (c : ℕ) (x : TxnView) (o : Op (List ℕ))
-    (a : Answer)
-    (sound : AreSound old) (here : of_client old.clients c ≡ Some x) (fails : CallFails z old new c x o a) where
+    (a : Answer) (sound : AreSound old) (here : of_client old.clients c ≡ Some x) (fails : CallFails z old new c x o a) where
   -- a call that failed: the machine may answer so, and is then as it was
   pub fails_stand : (m : Machine) (t : Transaction) → m.settings.region ≡ z.size → m.settings.servers ≡ z.servers → TablesStand z.size z.told old m
-      → TellsOn z.told z.later → get m.transactions c ≡ Some t → call_refusal x ≡ None
-      → MayCall m t o a × TablesStand z.size z.later new (called m c t o a)
+      → TellsOn z.told z.later → get m.transactions c ≡ Some t → call_refusal x ≡ None → MayCall m t o a × TablesStand z.size z.later new (called m c t o a)
   fails_stand m t region count st on there asked =
       let txn = txn_in z.size z.told old m c x t st here there in
       let cap : cap_of m ≡ MAX_REGIONS * z.size = cap_is m z.size region in
@@ -220,10 +169,10 @@ module _ (z : Seeing) (old new : TablesView) (c : ℕ) (x : TxnView) (o : Op (Li
 
 -- ---- an abort
 module _ (old new : TablesView) (c : ℕ) (x : TxnView) (a : Answer) (sound : AreSound old) (here : of_client old.clients c ≡ Some x)
-    (aborts : (a ≡ answer.Okay) × Ends old new old.kv c x) where
+    (aborts : (a ≡ Answer.Okay) × Ends old new old.kv c x) where
   -- and the machine ends the transaction too
   pub aborts_stand : (size : ℕ) (told later : Told) (m : Machine) (t : Transaction) → TablesStand size told old m → TellsOn told later
-      → MayAsk m (Some t) verb.Abort a × TablesStand size later new (aborted m c a)
+      → MayAsk m (Some t) Verb.Abort a × TablesStand size later new (aborted m c a)
   aborts_stand size told later m t st on = (
     aborts.0,
     subst (λ r. TablesStand size later new (aborted m c r)) (sym aborts.0)

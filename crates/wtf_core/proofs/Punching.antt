@@ -1,54 +1,23 @@
 -- What a line punches: a collection alone, and only garbage.
-use Rattle.std.proofs.Common.{◌≡◌, ◌≢◌, ◌≤◌, ℕ, Bool, true, false, List, [], ◌++◌, length, refl, sym, ◌∙◌, ap, subst, arith}
-use Rattle.std.specs.Prelude.{◌||◌, ⊤}
-use Rattle.std.proofs.lemmas.Bool.{true≢false}
-use Rattle.wtf_base.specs.Places.{Place}
-use Rattle.wtf_dev.specs.Each.{EachFollows}
-use Rattle.wtf_dev.specs.Store.{Range, StoreKind, KindLaws}
-use Rattle.wtf_model.specs.declared.answer.Answer.{Answer}
-use Rattle.wtf_model.specs.declared.answer.Answer.TheVariants as answer
-use Rattle.wtf_model.specs.declared.answer.Word.TheVariants.{NoServer, NoScan}
-use Rattle.wtf_model.specs.declared.event.Event.{Event}
-use Rattle.wtf_model.specs.declared.event.Event.TheVariants as event
-use Rattle.wtf_replica.specs.Downs.{is_down}
-use Rattle.wtf_replica.specs.Faults.{punched_on}
-use Rattle.wtf_replica.specs.Spans.{Span}
-use Rattle.wtf_region.specs.declared.dev.Dev.{Dev}
-use Rattle.wtf_region.specs.Devs.{IsSoundDev, GoesOn, stores, remembered, is_down_in}
-use Rattle.wtf_region.proofs.Spans.{goes_nowhere, goes_on}
-use Rattle.wtf_gc.specs.declared.extent.Extent.{Extent}
-use Rattle.wtf_gc.specs.Extents.{extents_cover}
-use Rattle.wtf_gc.specs.Frees.{AreZeroed, lie_in, tried_on}
-use Rattle.wtf_gc.specs.Views.{GcView}
-use Rattle.wtf_clients.specs.ScanTurns.{CollectTurn, CollectsSome}
-use Rattle.wtf_clients.specs.Views.{TablesView}
-use Rattle.wtf_clients.proofs.Freeing.{front_apart}
-use Rattle.wtf_clients.proofs.Punched.{tried_among}
-use Rattle.wtf_core.specs.Punched.{IsUncollected, ArePunchedBy, AreFreed, CountsAs}
-use Rattle.wtf_core.specs.Remembering.{KeepsLists, KeepsPunched}
-use Rattle.wtf_core.specs.Turns.{LineTurn}
-use Rattle.wtf_core.specs.Views.{CoreView}
-use Rattle.wtf_clients.specs.Sounds.{AreSound}
-use Rattle.wtf_core.proofs.Moves.{line_moves}
-use Rattle.wtf_core.proofs.Remembering.{goes_keeps}
+use Rattle.wtf_core.proofs.Common.{◌||◌, ⊤, true≢false, Place, EachFollows, Range, StoreKind, KindLaws, Answer, NoServer, NoScan, Event, is_down, punched_on}
+use Rattle.wtf_core.proofs.Common.{Span, Dev, IsSoundDev, GoesOn, stores, remembered, is_down_in, goes_nowhere, goes_on, Extent, extents_cover, AreZeroed}
+use Rattle.wtf_core.proofs.Common.{lie_in, tried_on, GcView, CollectTurn, CollectsSome, TablesView, front_apart, tried_among, IsUncollected, ArePunchedBy}
+use Rattle.wtf_core.proofs.Common.{AreFreed, CountsAs, KeepsLists, KeepsPunched, LineTurn, CoreView, AreSound, ◌≡◌, ◌≢◌, ◌≤◌, ℕ, Bool, true, false, List, []}
+use Rattle.wtf_core.proofs.Common.{◌++◌, length, refl, sym, ◌∙◌, ap, subst, arith}
+use Rattle.wtf_core.proofs.{Moves.line_moves, Remembering.goes_keeps}
 
 or_none : (b : Bool) → (b || false) ≡ b
 or_none true = refl
 or_none false = refl
 
 -- ---- a line that punches nothing
-unpunched_by : (gc : GcView) (e : Event) (a : Answer) → ((k : ℕ) → e ≢ event.Collect k) → IsUncollected a → ArePunchedBy gc e a []
-unpunched_by gc (event.Collect k) a other none = absurd (other k refl)
+unpunched_by : (gc : GcView) (e : Event) (a : Answer) → ((k : ℕ) → e ≢ Event.Collect k) → IsUncollected a → ArePunchedBy gc e a []
+unpunched_by gc (Event.Collect k) a other none = absurd (other k refl)
 unpunched_by gc e a other none = (refl, none)
 
 counts_same : (old new : GcView) (a : Answer) → new.freed ≡ old.freed → CountsAs old new a []
-counts_same old new (answer.FaultPunch k) same = (
-  [],
-  [],
-  refl,
-  omega arith,
-  λ p. ap (λ (es : List Extent). extents_cover es p) same ∙ sym (or_none (extents_cover old.freed p)),
-)
+counts_same old new (Answer.FaultPunch k) same =
+    ([], [], refl, omega arith, λ p. ap (λ (es : List Extent). extents_cover es p) same ∙ sym (or_none (extents_cover old.freed p)))
 counts_same old new a same = λ p. ap (λ (es : List Extent). extents_cover es p) same ∙ sym (or_none (extents_cover old.freed p))
 
 freed_none : {S : Type 0} (kind : StoreKind S) (down : ℕ → Bool) (before after : List S) (old new : GcView) → new.freed ≡ old.freed
@@ -77,55 +46,52 @@ one_tried false k r = omega arith
 module _ {S : Type 0} {kind : StoreKind S} (laws : KindLaws kind) (before after : Dev S) (sound : IsSoundDev kind before) (old new : CoreView) (k : ℕ)
     (settings : before.settings ≡ old.settings) (lent : before.replicas.now ≡ old.replicas) (was : remembered before ≡ old.lists)
     (is : new.lists ≡ remembered after) where
-  kept_by : (a : Answer) (ranges : List (ℕ × Range)) → ArePunchedBy old.tables.beside.gc (event.Collect k) a ranges
+  kept_by : (a : Answer) (ranges : List (ℕ × Range)) → ArePunchedBy old.tables.beside.gc (Event.Collect k) a ranges
       → CountsAs old.tables.beside.gc new.tables.beside.gc a ranges
       → AreFreed kind (is_down before.replicas.now) (stores before) (stores after) old.tables.beside.gc new.tables.beside.gc → GoesOn kind before after ranges
-      → KeepsPunched kind (stores before) (stores after) old new (event.Collect k) a
+      → KeepsPunched kind (stores before) (stores after) old new (Event.Collect k) a
   kept_by a ranges are counts freed goes = record {
     punches = record { ranges = ranges; are = are; counts = counts; follows = goes.each };
     freed = subst (λ r. AreFreed kind (is_down r) (stores before) (stores after) old.tables.beside.gc new.tables.beside.gc) lent freed;
     lists = goes_keeps kind before after old new goes settings was is;
   }
 
-  none_kept : (w : _) → new.tables ≡ old.tables → after ≡ before
-      → KeepsPunched kind (stores before) (stores after) old new (event.Collect k) (answer.Refused w)
+  none_kept : (w : _) → new.tables ≡ old.tables → after ≡ before → KeepsPunched kind (stores before) (stores after) old new (Event.Collect k) (Answer.Refused w)
   none_kept w same stay =
-      kept_by (answer.Refused w) [] (refl, tt)
-      (counts_same old.tables.beside.gc new.tables.beside.gc (answer.Refused w) (ap (λ (t : TablesView). t.beside.gc.freed) same))
+      kept_by (Answer.Refused w) [] (refl, tt)
+      (counts_same old.tables.beside.gc new.tables.beside.gc (Answer.Refused w) (ap (λ (t : TablesView). t.beside.gc.freed) same))
       (freed_none kind (is_down before.replicas.now) (stores before) (stores after) old.tables.beside.gc new.tables.beside.gc
-      (ap (λ (t : TablesView). t.beside.gc.freed) same))
-      (subst (λ (dev : Dev S). GoesOn kind before dev []) (sym stay) (goes_nowhere laws before sound))
+      (ap (λ (t : TablesView). t.beside.gc.freed) same)) (subst (λ (dev : Dev S). GoesOn kind before dev []) (sym stay) (goes_nowhere laws before sound))
 
   some_kept : (j : ℕ) → CollectsSome kind before after old.tables new.tables k j
-      → KeepsPunched kind (stores before) (stores after) old new (event.Collect k) (answer.FaultPunch j)
+      → KeepsPunched kind (stores before) (stores after) old new (Event.Collect k) (Answer.FaultPunch j)
   some_kept j h =
       let f = h.frees in
       let down : Bool = is_down_in f.mid k in
-      kept_by (answer.FaultPunch j) (f.ranges ++ tried_on f.mid (k, f.tried))
+      kept_by (Answer.FaultPunch j) (f.ranges ++ tried_on f.mid (k, f.tried))
       (record {
         apart = front_apart f.ranges f.rest down k f.tried f.are.apart;
         among = λ p here. sym (f.are.exact p) ∙ tried_among down f.ranges f.rest k f.tried p here;
       })
       (f.ranges, tried_on f.mid (k, f.tried), refl, one_tried down k f.tried, f.counts.freed)
-      (freed_by kind before after old.tables.beside.gc new.tables.beside.gc f.ranges f.counts.freed f.zeroed)
-      (goes_on laws f.goes f.last)
+      (freed_by kind before after old.tables.beside.gc new.tables.beside.gc f.ranges f.counts.freed f.zeroed) (goes_on laws f.goes f.last)
 
   pub collect_keeps : (a : Answer) → CollectTurn kind before after old.tables new.tables k a
-      → KeepsPunched kind (stores before) (stores after) old new (event.Collect k) a
-  collect_keeps (answer.Refused NoServer) h = none_kept NoServer h.0 h.1
-  collect_keeps (answer.Refused NoScan) h = none_kept NoScan h.0 h.1
-  collect_keeps (answer.Collected n) h =
-      kept_by (answer.Collected n) h.1.frees.ranges (h.1.frees.are, h.1.frees.count) h.1.frees.counts.freed
+      → KeepsPunched kind (stores before) (stores after) old new (Event.Collect k) a
+  collect_keeps (Answer.Refused NoServer) h = none_kept NoServer h.0 h.1
+  collect_keeps (Answer.Refused NoScan) h = none_kept NoScan h.0 h.1
+  collect_keeps (Answer.Collected n) h =
+      kept_by (Answer.Collected n) h.1.frees.ranges (h.1.frees.are, h.1.frees.count) h.1.frees.counts.freed
       (freed_by kind before after old.tables.beside.gc new.tables.beside.gc h.1.frees.ranges h.1.frees.counts.freed h.1.frees.zeroed) h.1.frees.goes
-  collect_keeps (answer.FaultPunch j) h = some_kept j h.1
+  collect_keeps (Answer.FaultPunch j) h = some_kept j h.1
   collect_keeps a h = absurd h
 
 -- ---- a line that collects nothing
 abbrev pub IsUncollecting : Event → Type 0
-IsUncollecting (event.Collect k) = ⊥
+IsUncollecting (Event.Collect k) = ⊥
 IsUncollecting e = ⊤
 
-uncollecting : (e : Event) → IsUncollecting e → (k : ℕ) → e ≢ event.Collect k
+uncollecting : (e : Event) → IsUncollecting e → (k : ℕ) → e ≢ Event.Collect k
 uncollecting e plain k is = subst IsUncollecting is plain
 
 pub none_keeps : {S : Type 0} (kind : StoreKind S) (t : Span S) (old new : CoreView) → AreSound old.tables → (e : Event) (a : Answer)

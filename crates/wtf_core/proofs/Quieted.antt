@@ -1,32 +1,11 @@
 -- Dropping versions that no one sees leaves collection safe, the images' trees, and a quiet ending where it is.
-use Rattle.std.proofs.Common.{◌≡◌, ◌⊎◌, ◌<◌, ℕ, nat_eq, count_by, Bool, true, List, Some, IsTrue, refl, sym, ◌∙◌, ap, subst, arith}
-use Rattle.std.specs.List.{Contains, list_any}
-use Rattle.std.specs.Prelude.{⊤}
-use Rattle.wtf_kv.specs.Stores.{is_pinned}
-use Rattle.wtf_kv.proofs.PinLaws.{any-count, count-any}
-use Rattle.wtf_base.specs.Places.{Place}
-use Rattle.wtf_dev.specs.Store.{StoreKind}
-use Rattle.wtf_replica.specs.Bytes.{byte_at}
-use Rattle.wtf_replica.specs.Spans.{Span}
-use Rattle.wtf_meta.specs.Contents.{Told, is_told}
-use Rattle.wtf_meta.specs.Maps.{Map, metadata_at}
-use Rattle.wtf_meta.specs.Trees.{Stands}
-use Rattle.wtf_gc.specs.Extents.{extents_cover}
-use Rattle.wtf_gc.specs.Views.{RunView, mark_of}
-use Rattle.wtf_clients.specs.Named.{ListedBytes}
-use Rattle.wtf_clients.specs.Safe.{IsSafe, LieIn}
-use Rattle.wtf_clients.specs.Sounds.{AreSound, IsTidied, all_seen}
-use Rattle.wtf_clients.specs.Views.{BesideView, TablesView, metadata_now}
-use Rattle.wtf_clients.proofs.Lives.{number_live, pinned_live}
-use Rattle.wtf_core.specs.Quiet.{AreIdle, IsAtRest, MapNames, Stage, HasScans, IsIdleAt, IsAtStage, LeavesKept, HasCollected}
-use Rattle.wtf_core.specs.Telling.{KeepsImages}
-use Rattle.wtf_core.specs.Views.{CoreView}
-use Rattle.wtf_clients.proofs.Images.{kept_pinned}
-use Rattle.wtf_clients.proofs.SafeLaws.{went_safe}
-use Rattle.wtf_clients.proofs.Wents.{tidy_went}
-use Rattle.wtf_core.proofs.Carried.{AllSameBases, ReadsSame, reads_same, names_later, names_before, stage_later}
-use Rattle.wtf_core.proofs.Idling.{idle_on, rests_on}
-use Rattle.wtf_core.proofs.Naming.{tidied_bytes}
+use Rattle.wtf_core.proofs.Common.{Contains, list_any, ⊤, is_pinned, any-count, count-any, Place, StoreKind, byte_at, Span, Told, is_told, Map, metadata_at}
+use Rattle.wtf_core.proofs.Common.{Stands, extents_cover, RunView, mark_of, ListedBytes, IsSafe, LieIn, AreSound, IsTidied, all_seen, BesideView, TablesView}
+use Rattle.wtf_core.proofs.Common.{metadata_now, number_live, pinned_live, AreIdle, IsAtRest, MapNames, Stage, HasScans, IsIdleAt, IsAtStage, LeavesKept}
+use Rattle.wtf_core.proofs.Common.{HasCollected, KeepsImages, CoreView, kept_pinned, went_safe, tidy_went, ◌≡◌, ◌⊎◌, ◌<◌, ℕ, nat_eq, count_by, Bool, true, List}
+use Rattle.wtf_core.proofs.Common.{Some, IsTrue, refl, sym, ◌∙◌, ap, subst, arith}
+use Rattle.wtf_core.proofs.{Carried.AllSameBases, Carried.ReadsSame, Carried.reads_same, Carried.names_later, Carried.names_before, Carried.stage_later}
+use Rattle.wtf_core.proofs.{Idling.idle_on, Idling.rests_on, Naming.tidied_bytes}
 
 -- a number that the scan has pinned which runs is pinned
 pub seen_pinned : (tables : TablesView) (r : RunView) (n : ℕ) → AreSound tables → tables.beside.gc.running ≡ Some r → list_any (nat_eq n) r.seen ≡ true
@@ -56,8 +35,7 @@ pub tidied_images : {S : Type 0} (kind : StoreKind S) (t : Span S) (old answered
 tidied_images kind t old answered tables sound tidy h n was is tx tree stands =
     let there : Contains answered.tables.beside.images n = subst (λ (b : BesideView). Contains b.images n) tidy.beside is in
     subst (λ (w : Map). Stands old.settings.region (byte_at kind t.after) tx 0 w tree)
-    (sym (tidy.maps n (pinned_live answered.tables.kv n (kept_pinned answered.tables n sound there))))
-    (h n was there tx tree stands)
+    (sym (tidy.maps n (pinned_live answered.tables.kv n (kept_pinned answered.tables n sound there)))) (h n was there tx tree stands)
 
 module _ {S : Type 0} (kind : StoreKind S) (shelf : List S) (answered : CoreView) (tables : TablesView) (tidy : IsTidied answered.tables tables) where
   -- the core as it is left

@@ -1,99 +1,33 @@
 -- A quiet ending goes on, line by line: a scan that begins, parts that are done, and all other scans, pieces and collections. And a save behind one
 -- that has collected leaves an image that names each byte of the server that was not freed.
-use Rattle.std.proofs.Common.{◌≡◌, ◌<◌, ℕ, ◌-◌, Bool, true, false, ◌||◌, ◌&&◌, nat_eq, List, [], ◌∷◌, length}
-use Rattle.std.proofs.Common.{Option, None, Some, refl, sym, ◌∙◌, ap, subst, inl, inr, true≢false, arith}
-use Rattle.std.specs.Prelude.{IsTrue}
-use Rattle.std.specs.FinMap.{get}
-use Rattle.std.specs.Option.{option_map}
-use Rattle.std.proofs.lemmas.Bool.{and_parts}
-use Rattle.wtf_base.specs.declared.fault.Fault.{Fault}
-use Rattle.wtf_base.specs.declared.fault.Fault.TheVariants as fault
-use Rattle.wtf_base.specs.declared.ids.InodeId.{InodeId}
-use Rattle.wtf_base.specs.declared.settings.Settings.{Settings}
-use Rattle.wtf_base.specs.Places.{Place}
-use Rattle.wtf_dev.specs.Each.{EachFollows}
-use Rattle.wtf_dev.specs.Store.{Range, StoreKind, KindLaws}
-use Rattle.wtf_replica.specs.Bytes.{byte_at, shown_byte}
-use Rattle.wtf_replica.specs.Outs.{SameLengths}
-use Rattle.wtf_replica.specs.Spans.{Span}
-use Rattle.wtf_kv.specs.Stores.{Store, is_live}
-use Rattle.wtf_values.specs.declared.key.Key.{Key}
-use Rattle.wtf_values.specs.declared.key.Key.TheVariants as key
-use Rattle.wtf_values.specs.declared.region.RegionValue.{RegionValue}
-use Rattle.wtf_values.specs.declared.region.Spill.{Spill}
-use Rattle.wtf_values.specs.declared.value.Value.{Value}
-use Rattle.wtf_values.specs.declared.value.Value.TheVariants as value
-use Rattle.wtf_model.specs.declared.answer.Answer.{Answer}
-use Rattle.wtf_model.specs.declared.answer.Answer.TheVariants as answer
-use Rattle.wtf_model.specs.declared.answer.Word.TheVariants.{NoServer, ScanBusy, NoScan}
-use Rattle.wtf_model.specs.declared.event.Event.{Event}
-use Rattle.wtf_model.specs.declared.event.Event.TheVariants as event
-use Rattle.wtf_model.specs.Machines.{Machine}
-use Rattle.wtf_model.specs.Transaction.{Transaction, Job}
-use Rattle.wtf_model.specs.Tree.{Tree}
-use Rattle.wtf_meta.specs.Bytes.{BaseBytes, ValueBytes, MapBytes, ListSlices, any_slice}
-use Rattle.wtf_meta.specs.Contents.{Told, is_told, is_listed, lists_in}
-use Rattle.wtf_meta.specs.Lists.{TellLists}
-use Rattle.wtf_meta.specs.Maps.{Map, metadata_at}
-use Rattle.wtf_meta.proofs.ListTests.{has_list}
-use Rattle.wtf_meta.proofs.Telling.{TellsOn, lists_in-later}
-use Rattle.wtf_meta.proofs.Weaker.{map_stays}
-use Rattle.wtf_region.specs.declared.dev.Dev.{Dev}
-use Rattle.wtf_region.specs.Apart.{lies_apart, are_apart}
-use Rattle.wtf_region.specs.Cached.{Remembered, CacheTrue}
-use Rattle.wtf_region.specs.Devs.{remembered, told_in, shown_in}
-use Rattle.wtf_region.specs.Reads.{IsBaseFault}
-use Rattle.wtf_replay.specs.Causes.{fault_answer}
-use Rattle.wtf_replay.specs.Insides.{lists_have}
-use Rattle.wtf_replay.specs.Views.{TxnView}
-use Rattle.wtf_replay.proofs.Later.{tells_on}
-use Rattle.wtf_image.specs.Images.{HasText}
-use Rattle.wtf_image.specs.Lookups.{plain}
-use Rattle.wtf_image.specs.Savable.{IsSavable}
-use Rattle.wtf_image.specs.Tables.{shown}
-use Rattle.wtf_image.proofs.SaveMap.{says_all}
-use Rattle.wtf_image.proofs.StandsLaws.{stands_savable}
-use Rattle.wtf_compact.specs.Jobs.{JobView}
-use Rattle.wtf_gc.specs.Extents.{extents_cover}
-use Rattle.wtf_gc.specs.Frees.{lie_in}
-use Rattle.wtf_gc.specs.Named.{region_has}
-use Rattle.wtf_gc.specs.Parts.{part_of}
-use Rattle.wtf_gc.specs.Scans.{next_parts, IsPieceFault}
-use Rattle.wtf_gc.specs.Views.{ScanView, RunView, GcView, is_garbage, length_in}
-use Rattle.wtf_gc.proofs.Living.{kept_region}
-use Rattle.wtf_clients.specs.Keeping.{KeeperSpan, HasSaved}
-use Rattle.wtf_clients.specs.Named.{ListedBytes}
-use Rattle.wtf_clients.specs.Outcomes.{AddsBytes, load_of}
-use Rattle.wtf_clients.specs.ScanTurns.{StartsTurn, DoesTurn, PieceFails}
-use Rattle.wtf_clients.specs.Sounds.{AreSound}
-use Rattle.wtf_clients.specs.Standing.{StandsForSlot, StandsForLabel}
-use Rattle.wtf_clients.specs.Views.{Clients, BesideView, TablesView, of_client, of_label, metadata_now}
-use Rattle.wtf_clients.proofs.OffLaws.{lists_in_same}
-use Rattle.wtf_clients.proofs.Punched.{listed_apart, tells_punched}
-use Rattle.wtf_clients.proofs.SafeLaws.{garbage_unnamed}
-use Rattle.wtf_clients.proofs.ScanFrames.{start_maps, start_reads, start_sound}
-use Rattle.wtf_core.specs.Promises.{LeavesNamed, scene}
-use Rattle.wtf_core.specs.Punched.{CorePunches}
-use Rattle.wtf_core.specs.Quiet.{MapNames, ImageNames, IsIdle, AreIdle, is_kept, WatchesNoOther}
-use Rattle.wtf_core.specs.Quiet.{Stage, Saved, Scans, Scanned, ScansAgain, ScannedTwice, stage_begun, stage_done, next_stage}
-use Rattle.wtf_core.specs.Quiet.{IsScanned, IsBegun, HasScans, IsAtStage, HasCollected}
-use Rattle.wtf_core.specs.Standing.{StandsFor}
-use Rattle.wtf_core.specs.Telling.{TellsCore, GoesOnQuietly}
-use Rattle.wtf_core.specs.Turns.{IsByDevices, LineTurn}
-use Rattle.wtf_core.specs.Views.{CoreView}
-use Rattle.wtf_core.proofs.Carried.{SameBases, AllSameBases, ReadsSame, reads_same, names_on, size_same, length_same, scanned_later}
+use Rattle.wtf_core.proofs.Common.{IsTrue, get, option_map, and_parts, Fault, InodeId, Settings, Place, EachFollows, Range, StoreKind, KindLaws, byte_at}
+use Rattle.wtf_core.proofs.Common.{shown_byte, SameLengths, Span, Store, is_live, Key, RegionValue, Spill, Value, Answer, NoServer, ScanBusy, NoScan, Event}
+use Rattle.wtf_core.proofs.Common.{Machine, Transaction, Job, Tree, BaseBytes, ValueBytes, MapBytes, ListSlices, any_slice, Told, is_told, is_listed, lists_in}
+use Rattle.wtf_core.proofs.Common.{TellLists, Map, metadata_at, has_list, TellsOn, lists_in-later, map_stays, Dev, lies_apart, are_apart, Remembered, CacheTrue}
+use Rattle.wtf_core.proofs.Common.{remembered, told_in, shown_in, IsBaseFault, fault_answer, lists_have, TxnView, tells_on, HasText, plain, IsSavable, shown}
+use Rattle.wtf_core.proofs.Common.{says_all, stands_savable, JobView, extents_cover, lie_in, region_has, part_of, next_parts, IsPieceFault, ScanView, RunView}
+use Rattle.wtf_core.proofs.Common.{GcView, is_garbage, kept_region, KeeperSpan, HasSaved, ListedBytes, AddsBytes, load_of, StartsTurn, DoesTurn, PieceFails}
+use Rattle.wtf_core.proofs.Common.{AreSound, StandsForSlot, StandsForLabel, Clients, BesideView, TablesView, of_client, of_label, metadata_now, lists_in_same}
+use Rattle.wtf_core.proofs.Common.{listed_apart, tells_punched, garbage_unnamed, start_maps, start_reads, start_sound, LeavesNamed, scene, CorePunches}
+use Rattle.wtf_core.proofs.Common.{MapNames, ImageNames, IsIdle, AreIdle, WatchesNoOther, Stage, Saved, Scans, Scanned, ScansAgain, ScannedTwice, stage_begun}
+use Rattle.wtf_core.proofs.Common.{stage_done, next_stage, IsScanned, IsBegun, HasScans, IsAtStage, HasCollected, StandsFor, TellsCore, GoesOnQuietly}
+use Rattle.wtf_core.proofs.Common.{IsByDevices, LineTurn, CoreView, ◌≡◌, ◌<◌, ℕ, ◌-◌, Bool, true, false, ◌||◌, ◌&&◌, nat_eq, List, [], ◌∷◌, Option, None, Some}
+use Rattle.wtf_core.proofs.Common.{refl, sym, ◌∙◌, ap, subst, inl, inr, true≢false, arith}
+use Rattle.wtf_core.specs.Quiet.{is_kept}
+use Rattle.wtf_core.proofs.Carried.{SameBases, AllSameBases, ReadsSame, reads_same, names_on, size_same, scanned_later}
 use Rattle.wtf_core.proofs.Idling.{live_kept, kept_live, kept_same}
-use Rattle.wtf_core.proofs.Moving.{some_is, none_some, IsCollection, SameRest, Moves, Leaves, moves_quietly, plainly, still_collected, steady, still, collects}
+use Rattle.wtf_core.proofs.Moving.{some_is, none_some, IsCollection, InPlace, SameRest, rest_of, long_on, Moves, Leaves, moves_quietly, plainly}
+use Rattle.wtf_core.proofs.Moving.{still_collected, steady, still, collects}
 use Rattle.wtf_core.proofs.Parted.{part_rest, part_stays, more, done}
 use Rattle.wtf_core.proofs.Freeing.{frees_move, leaves}
 
 -- ---- lists of bases that are told as before
 -- P holds of a base of such a map
 base_of : (P : List Place → Bool) (Q : _ → Bool) (w : Map) (i : InodeId) (r : ℕ) (v : RegionValue) (s : Spill) → MapBytes P Q w
-    → w (key.Region i r) ≡ Some (value.Region v) → v.base ≡ Some s → BaseBytes P Q (Some s)
-base_of P Q w i r v s bytes there base = by (subst (ValueBytes P Q) there (bytes (key.Region i r)))
+    → w (Key.Region i r) ≡ Some (Value.Region v) → v.base ≡ Some s → BaseBytes P Q (Some s)
+base_of P Q w i r v s bytes there base = by (subst (ValueBytes P Q) there (bytes (Key.Region i r)))
   where
-    by : ValueBytes P Q (Some (value.Region v)) → BaseBytes P Q (Some s)
+    by : ValueBytes P Q (Some (Value.Region v)) → BaseBytes P Q (Some s)
     by h = subst (BaseBytes P Q) base h.base
 
 -- stores that tell more
@@ -111,29 +45,17 @@ bases_punched {kind = kind} laws {old = old} {new = new} {ranges = ranges} follo
     let known = base_of (are_apart ranges) (lists_have size (byte_at kind old) (are_apart ranges)) w i r v s bytes there base in
     lists_in_same (lies_apart ranges) (byte_at kind old) (byte_at kind new) (tells_punched laws follows) size s.slice known.0 known.1
 
-module _ {S : Type 0} (kind : StoreKind S) (t : Span S) (old new : CoreView) (settings : new.settings ≡ old.settings)
-    (many : length t.after ≡ length t.before) (lengths : SameLengths kind t.before t.after)
-    (same : AllSameBases old.settings.region (byte_at kind t.before) (byte_at kind t.after) old.tables.kv) where
+module _ {S : Type 0} (kind : StoreKind S) (t : Span S) (old new : CoreView) (place : InPlace kind t old new) where
   abbrev told : Told
   told = byte_at kind t.before
 
   abbrev later : Told
   later = byte_at kind t.after
 
-  long_on : (k f : ℕ) → length_in kind t.after k f ≡ length_in kind t.before k f
-  long_on = length_same kind t.before t.after many lengths
-
   -- ---- a scan begins
   module _ (sound : AreSound old.tables) (turn : StartsTurn kind t.before old.tables new.tables) where
     start_rest : SameRest old.tables new.tables
-    start_rest = record {
-      clients = turn.clients;
-      jobs = ap (λ (b : BesideView). b.jobs) turn.beside;
-      images = ap (λ (b : BesideView). b.images) turn.beside;
-      none = ap (λ (b : BesideView). b.none) turn.beside;
-      watched = ap (λ (b : BesideView). b.watched) turn.beside;
-      number = turn.starts.pins.number;
-    }
+    start_rest = rest_of old.tables new.tables new.tables.beside turn.clients turn.beside turn.starts.pins.number
 
     -- none ran
     not_begun : IsBegun kind t.before old old.tables.beside.gc.running → ⊥
@@ -159,7 +81,7 @@ module _ {S : Type 0} (kind : StoreKind S) (t : Span S) (old new : CoreView) (se
       begins =
           let all_left = turn.starts.left in
           subst (λ (o : Option RunView). IsBegun kind t.after new o) (sym (ap (λ (g : GcView). g.running) turn.starts.is)) (record {
-            marks = λ k f. turn.starts.mark k f ∙ sym (long_on k f);
+            marks = λ k f. turn.starts.mark k f ∙ sym (long_on kind t old new place k f);
             left = omega (arith, all_left);
             all = λ p h. absurd (no_part (part_of h.kept.named.inode) h.part);
             only = λ p here. absurd (true≢false (sym here ∙ ap (λ es. extents_cover es p) turn.starts.found));
@@ -168,7 +90,7 @@ module _ {S : Type 0} (kind : StoreKind S) (t : Span S) (old new : CoreView) (se
 
       newer_begun : IsScanned kind t.before old old.tables.beside.gc.newer → IsScanned kind t.after new new.tables.beside.gc.newer
       newer_begun h = subst (λ (s : ScanView). IsScanned kind t.after new s) (sym (ap (λ (g : GcView). g.newer) turn.starts.is))
-          (scanned_later kind t.before t.after old new settings long_on start_same same old.tables.beside.gc.newer h)
+          (scanned_later kind t.before t.after old new place.settings (long_on kind t old new place) start_same place.same old.tables.beside.gc.newer h)
 
       begun : (s : Stage) → HasScans kind t.before old s → HasScans kind t.after new (stage_begun s)
       begun Saved h = begins
@@ -177,11 +99,11 @@ module _ {S : Type 0} (kind : StoreKind S) (t : Span S) (old new : CoreView) (se
       begun ScansAgain h = absurd (not_begun h.0)
       begun ScannedTwice h = (begins, newer_begun h.2)
 
-    starts_move : Moves kind t old new event.Scan answer.Scanning
+    starts_move : Moves kind t old new Event.Scan Answer.Scanning
     starts_move = record {
       rest = start_rest;
       scans = λ s next is idle h. subst (λ (x : Stage). HasScans kind t.after new x) (some_is (stage_begun s) next is) (begun idle s h);
-      stays = still_collected kind t old new settings many lengths same start_rest
+      stays = still_collected kind t old new place start_rest
           (start_maps kind t.before old.tables new.tables sound turn new.tables.kv.number
           ∙ ap (λ (n : ℕ). metadata_at old.tables.kv n) turn.starts.pins.number)
           (λ p here. ap (λ (g : GcView). extents_cover g.freed p) turn.starts.is ∙ here);
@@ -233,22 +155,22 @@ freed_bases {kind = kind} laws before after core k ranges among follows tells n 
     in bases_punched laws follows core.settings.region (metadata_at core.tables.kv n) (apart.live n live)
 
 -- a piece fails for no want of servers to write to
-lacks_none : {S : Type 0} (kind : StoreKind S) (before after : Dev S) (base : Option Spill) → IsBaseFault kind before after base fault.Write → ⊥
+lacks_none : {S : Type 0} (kind : StoreKind S) (before after : Dev S) (base : Option Spill) → IsBaseFault kind before after base Fault.Write → ⊥
 lacks_none kind before after None is = cc
 lacks_none kind before after (Some s) h = h
 
-unwritten : {S : Type 0} (kind : StoreKind S) (before after : Dev S) (old new : TablesView) (n : ℕ) → PieceFails kind before after old new n answer.FaultWrite
+unwritten : {S : Type 0} (kind : StoreKind S) (before after : Dev S) (old new : TablesView) (n : ℕ) → PieceFails kind before after old new n Answer.FaultWrite
     → ⊥
 unwritten kind before after old new n h = by h.why h.answer old.beside.gc.running h.cause
   where
-    by : (why : Fault) → fault_answer why ≡ Some answer.FaultWrite → (o : Option RunView) → IsPieceFault kind before after new.kv o n why → ⊥
-    by fault.Write is None h = h
-    by fault.Write is (Some r) (inl memory) = cc
-    by fault.Write is (Some r) (inr lacks) = lacks_none kind lacks.mid after lacks.region.base lacks.cause
-    by (fault.Read k) is o h = cc
-    by (fault.Punch k) is o h = cc
-    by (fault.Damaged k) is o h = cc
-    by fault.Memory is o h = cc
+    by : (why : Fault) → fault_answer why ≡ Some Answer.FaultWrite → (o : Option RunView) → IsPieceFault kind before after new.kv o n why → ⊥
+    by Fault.Write is None h = h
+    by Fault.Write is (Some r) (inl memory) = cc
+    by Fault.Write is (Some r) (inr lacks) = lacks_none kind lacks.mid after lacks.region.base lacks.cause
+    by (Fault.Read k) is o h = cc
+    by (Fault.Punch k) is o h = cc
+    by (Fault.Damaged k) is o h = cc
+    by Fault.Memory is o h = cc
 
 module _ {S : Type 0} {kind : StoreKind S} (laws : KindLaws kind) (t : Span S) (old new : CoreView) (sound : AreSound old.tables)
     (tells : TellsCore kind t.before old) where
@@ -260,65 +182,56 @@ module _ {S : Type 0} {kind : StoreKind S} (laws : KindLaws kind) (t : Span S) (
       CorePunches kind t.before t.after old.tables.beside.gc new.tables.beside.gc e a → SameLengths kind t.before t.after
       → LineTurn kind t old new e a → Quiet e a
 
-  -- one that leaves the tables and punches nothing
+  -- one that punches nothing
+  in_place : new.settings ≡ old.settings → (ranges : List (ℕ × Range)) → ranges ≡ [] → EachFollows kind t.before t.after ranges
+      → SameLengths kind t.before t.after → InPlace kind t old new
+  in_place settings ranges none follows lengths =
+      record { settings = settings; many = follows.same_length; lengths = lengths; same = told_bases laws t.before t.after old ranges none follows tells }
+
+  -- one that leaves the tables too
   quiet_still : (e : Event) (a : Answer) → ((s next : Stage) → next_stage s e a ≡ Some next → s ≡ next) → (IsCollection e a → ⊥)
       → new.settings ≡ old.settings → new.tables ≡ old.tables → (ranges : List (ℕ × Range)) → ranges ≡ [] → EachFollows kind t.before t.after ranges
       → SameLengths kind t.before t.after → Quiet e a
   quiet_still e a stage other settings is ranges none follows lengths =
-      plainly kind t old new e a
-      (still kind t old new settings follows.same_length lengths (told_bases laws t.before t.after old ranges none follows tells) e a stage is) other
+      plainly kind t old new e a (still kind t old new (in_place settings ranges none follows lengths) e a stage is) other
 
-  quiet_scan : Does event.Scan answer.Scanning
+  quiet_scan : Does Event.Scan Answer.Scanning
   quiet_scan punched lengths turn =
-      plainly kind t old new event.Scan answer.Scanning
-      (starts_move kind t old new (ap (λ (core : CoreView). core.settings) turn.1) punched.follows.same_length lengths
-      (told_bases laws t.before t.after old punched.ranges punched.are.0 punched.follows tells) sound turn.0) (λ h. h)
+      plainly kind t old new Event.Scan Answer.Scanning (starts_move kind t old new
+      (in_place (ap (λ (core : CoreView). core.settings) turn.1) punched.ranges punched.are.0 punched.follows lengths) sound turn.0) (λ h. h)
 
-  quiet_more : (n left : ℕ) → Does (event.Piece n) (answer.More left)
+  quiet_more : (n left : ℕ) → Does (Event.Piece n) (Answer.More left)
   quiet_more n left punched lengths turn =
       let d = turn.0 in
-      let settings = ap (λ (core : CoreView). core.settings) turn.1 in
-      let many = punched.follows.same_length in
-      let bases = told_bases laws t.before t.after old punched.ranges punched.are.0 punched.follows tells in
+      let place = in_place (ap (λ (core : CoreView). core.settings) turn.1) punched.ranges punched.are.0 punched.follows lengths in
       let tell = facts_told kind t old new n left tells d d.did.1 in
-      plainly kind t old new (event.Piece n) (answer.More left) (record {
-        rest = part_rest kind t old new settings many lengths bases sound d.before d.after n left d.did.1 tell;
+      plainly kind t old new (Event.Piece n) (Answer.More left) (record {
+        rest = part_rest kind t old new place sound d.before d.after n left d.did.1 tell;
         scans = λ s next is idle h. subst (λ (x : Stage). HasScans kind t.after new x) (some_is s next is)
-            (more kind t old new settings many lengths bases sound d.before d.after n left d.did.1 tell d.did.0 idle s h);
-        stays = part_stays kind t old new settings many lengths bases sound d.before d.after n left d.did.1 tell;
+            (more kind t old new place sound d.before d.after n left d.did.1 tell d.did.0 idle s h);
+        stays = part_stays kind t old new place sound d.before d.after n left d.did.1 tell;
       }) (λ h. h)
 
-  quiet_done : (n : ℕ) → Does (event.Piece n) answer.Done
+  quiet_done : (n : ℕ) → Does (Event.Piece n) Answer.Done
   quiet_done n punched lengths turn =
       let d = turn.0 in
-      let settings = ap (λ (core : CoreView). core.settings) turn.1 in
-      let many = punched.follows.same_length in
-      let bases = told_bases laws t.before t.after old punched.ranges punched.are.0 punched.follows tells in
+      let place = in_place (ap (λ (core : CoreView). core.settings) turn.1) punched.ranges punched.are.0 punched.follows lengths in
       let tell = facts_told kind t old new n 0 tells d d.did in
-      plainly kind t old new (event.Piece n) answer.Done (record {
-        rest = part_rest kind t old new settings many lengths bases sound d.before d.after n 0 d.did tell;
+      plainly kind t old new (Event.Piece n) Answer.Done (record {
+        rest = part_rest kind t old new place sound d.before d.after n 0 d.did tell;
         scans = λ s next is idle h. subst (λ (x : Stage). HasScans kind t.after new x) (some_is (stage_done s) next is)
-            (done kind t old new settings many lengths bases sound d.before d.after n 0 d.did tell (sym d.did.does.left_is) idle s h);
-        stays = part_stays kind t old new settings many lengths bases sound d.before d.after n 0 d.did tell;
+            (done kind t old new place sound d.before d.after n 0 d.did tell (sym d.did.does.left_is) idle s h);
+        stays = part_stays kind t old new place sound d.before d.after n 0 d.did tell;
       }) (λ h. h)
 
   -- parts that were not done
-  quiet_failed : (n : ℕ) (a : Answer) → ((s next : Stage) → next_stage s (event.Piece n) a ≡ Some next → s ≡ next) → {before after : Dev S}
+  quiet_failed : (n : ℕ) (a : Answer) → ((s next : Stage) → next_stage s (Event.Piece n) a ≡ Some next → s ≡ next) → {before after : Dev S}
       → PieceFails kind before after old.tables new.tables n a → new.settings ≡ old.settings → (ranges : List (ℕ × Range)) → ranges ≡ []
-      → EachFollows kind t.before t.after ranges → SameLengths kind t.before t.after → Quiet (event.Piece n) a
+      → EachFollows kind t.before t.after ranges → SameLengths kind t.before t.after → Quiet (Event.Piece n) a
   quiet_failed n a stage fails settings ranges none follows lengths =
       let p = fails.pruned in
-      plainly kind t old new (event.Piece n) a
-      (steady kind t old new settings follows.same_length lengths (told_bases laws t.before t.after old ranges none follows tells) (event.Piece n) a stage
-      (reads_same old.tables.kv new.tables.kv p.kv.number p.pins p.kv.maps)
-      (record {
-        clients = p.clients;
-        jobs = ap (λ (b : BesideView). b.jobs) p.beside;
-        images = ap (λ (b : BesideView). b.images) p.beside;
-        none = ap (λ (b : BesideView). b.none) p.beside;
-        watched = ap (λ (b : BesideView). b.watched) p.beside;
-        number = p.kv.number;
-      })
+      plainly kind t old new (Event.Piece n) a (steady kind t old new (in_place settings ranges none follows lengths) (Event.Piece n) a stage
+      (reads_same old.tables.kv new.tables.kv p.kv.number p.pins p.kv.maps) (rest_of old.tables new.tables old.tables.beside p.clients p.beside p.kv.number)
       (record {
         running = ap (λ (b : BesideView). b.gc.running) p.beside;
         older = ap (λ (b : BesideView). b.gc.older) p.beside;
@@ -326,30 +239,36 @@ module _ {S : Type 0} {kind : StoreKind S} (laws : KindLaws kind) (t : Span S) (
       })
       (λ q here. ap (λ (b : BesideView). extents_cover b.gc.freed q) p.beside ∙ here)) (λ h. h)
 
-  quiet_collect : (k n : ℕ) → Does (event.Collect k) (answer.Collected n)
+  quiet_collect : (k n : ℕ) → Does (Event.Collect k) (Answer.Collected n)
   quiet_collect k n punched lengths turn =
       let all = turn.0.did.1 in
-      let settings = ap (λ (core : CoreView). core.settings) turn.1 in
-      let many = punched.follows.same_length in
       let are = punched.are.0 in
       let size : ℕ = old.settings.region in
-      let bases = freed_bases laws t.before t.after old k punched.ranges (λ p here. sym (are.exact p) ∙ here) punched.follows tells in
-      moves_quietly kind t old new (event.Collect k) (answer.Collected n)
-      (frees_move kind t old new settings many lengths bases all.keeps all.frees.counts k (answer.Collected n))
+      let place : InPlace kind t old new = record {
+        settings = ap (λ (core : CoreView). core.settings) turn.1;
+        many = punched.follows.same_length;
+        lengths = lengths;
+        same = freed_bases laws t.before t.after old k punched.ranges (λ p here. sym (are.exact p) ∙ here) punched.follows tells;
+      } in
+      moves_quietly kind t old new (Event.Collect k) (Answer.Collected n) (frees_move kind t old new place all.keeps all.frees.counts k (Answer.Collected n))
       (λ j m is said. subst (λ (x : ℕ). Leaves kind t old new x) (same_server j is)
-      (leaves kind t old new settings many lengths bases all.keeps all.frees.counts sound k punched.ranges are punched.counts
+      (leaves kind t old new place all.keeps all.frees.counts sound k punched.ranges are punched.counts
       (garbage_unnamed size (byte_at kind t.before) old.tables tells.safe) tells.safe.gone))
     where
-      same_server : (j : ℕ) → ◌≡◌ {A = Event} (event.Collect k) (event.Collect j) → k ≡ j
+      same_server : (j : ℕ) → ◌≡◌ {A = Event} (Event.Collect k) (Event.Collect j) → k ≡ j
       same_server j is = cc
 
   -- some of it was freed
-  quiet_some : (k j : ℕ) → Does (event.Collect k) (answer.FaultPunch j)
+  quiet_some : (k j : ℕ) → Does (Event.Collect k) (Answer.FaultPunch j)
   quiet_some k j punched lengths turn =
       let some = turn.0.did.1 in
-      plainly kind t old new (event.Collect k) (answer.FaultPunch j)
-      (frees_move kind t old new (ap (λ (core : CoreView). core.settings) turn.1) punched.follows.same_length lengths
-      (freed_bases laws t.before t.after old k punched.ranges punched.are.among punched.follows tells) some.keeps some.frees.counts k (answer.FaultPunch j))
+      plainly kind t old new (Event.Collect k) (Answer.FaultPunch j)
+      (frees_move kind t old new (record {
+        settings = ap (λ (core : CoreView). core.settings) turn.1;
+        many = punched.follows.same_length;
+        lengths = lengths;
+        same = freed_bases laws t.before t.after old k punched.ranges punched.are.among punched.follows tells;
+      }) some.keeps some.frees.counts k (Answer.FaultPunch j))
       (λ h. h)
 
   -- a line that ends a quiet ending
@@ -368,35 +287,33 @@ never x is = cc
 module _ {S : Type 0} {kind : StoreKind S} (laws : KindLaws kind) (t : Span S) (old new : CoreView) where
   pub quiet_on : (e : Event) (a : Answer) → AreSound old.tables → TellsCore kind t.before old
       → CorePunches kind t.before t.after old.tables.beside.gc new.tables.beside.gc e a → AddsBytes kind t old.settings (load_of e) a
-      → LineTurn kind t old new e a
-      → GoesOnQuietly kind t old new e a
-  quiet_on event.Scan answer.Scanning sound tells punched adds turn = quiet_scan laws t old new sound tells punched adds turn
-  quiet_on event.Scan (answer.Refused ScanBusy) sound tells punched adds turn =
-      quiet_still laws t old new sound tells event.Scan (answer.Refused ScanBusy) (λ s next is. some_is s next is) (λ h. h)
+      → LineTurn kind t old new e a → GoesOnQuietly kind t old new e a
+  quiet_on Event.Scan Answer.Scanning sound tells punched adds turn = quiet_scan laws t old new sound tells punched adds turn
+  quiet_on Event.Scan (Answer.Refused ScanBusy) sound tells punched adds turn =
+      quiet_still laws t old new sound tells Event.Scan (Answer.Refused ScanBusy) (λ s next is. some_is s next is) (λ h. h)
       (ap (λ (core : CoreView). core.settings) turn.1) turn.0.0 punched.ranges punched.are.0 punched.follows adds
-  quiet_on event.Scan (answer.Held who) sound tells punched adds turn = quiet_still laws t old new sound tells event.Scan (answer.Held who)
+  quiet_on Event.Scan (Answer.Held who) sound tells punched adds turn = quiet_still laws t old new sound tells Event.Scan (Answer.Held who)
       (λ s next is. some_is s next is) (λ h. h)
       (ap (λ (core : CoreView). core.settings) turn.1) turn.0.0 punched.ranges punched.are.0 punched.follows adds
-  quiet_on event.Scan a sound tells punched adds turn = absurd turn.0
-  quiet_on (event.Piece n) answer.Done sound tells punched adds turn = quiet_done laws t old new sound tells n punched adds turn
-  quiet_on (event.Piece n) (answer.More left) sound tells punched adds turn = quiet_more laws t old new sound tells n left punched adds turn
-  quiet_on (event.Piece n) (answer.Refused NoScan) sound tells punched adds turn =
-      quiet_still laws t old new sound tells (event.Piece n) (answer.Refused NoScan) (λ s next is. some_is s next is) (λ h. h)
+  quiet_on Event.Scan a sound tells punched adds turn = absurd turn.0
+  quiet_on (Event.Piece n) Answer.Done sound tells punched adds turn = quiet_done laws t old new sound tells n punched adds turn
+  quiet_on (Event.Piece n) (Answer.More left) sound tells punched adds turn = quiet_more laws t old new sound tells n left punched adds turn
+  quiet_on (Event.Piece n) (Answer.Refused NoScan) sound tells punched adds turn =
+      quiet_still laws t old new sound tells (Event.Piece n) (Answer.Refused NoScan) (λ s next is. some_is s next is) (λ h. h)
       (ap (λ (core : CoreView). core.settings) turn.1) turn.0.did.0 punched.ranges punched.are.0 punched.follows adds
-  quiet_on (event.Piece n) answer.FaultWrite sound tells punched adds turn =
+  quiet_on (Event.Piece n) Answer.FaultWrite sound tells punched adds turn =
       absurd (unwritten kind turn.0.before turn.0.after old.tables new.tables n turn.0.did)
-  quiet_on (event.Piece n) a sound tells punched adds turn = quiet_failed laws t old new sound tells n a (λ s next is. some_is s next is) turn.0.did
-      (ap (λ (core : CoreView). core.settings) turn.1) punched.ranges
-      punched.are.0 punched.follows adds
-  quiet_on (event.Collect k) (answer.Collected n) sound tells punched adds turn = quiet_collect laws t old new sound tells k n punched adds turn
-  quiet_on (event.Collect k) (answer.FaultPunch j) sound tells punched adds turn = quiet_some laws t old new sound tells k j punched adds turn
-  quiet_on (event.Collect k) (answer.Refused NoServer) sound tells punched adds turn =
-      quiet_still laws t old new sound tells (event.Collect k) (answer.Refused NoServer) (λ s next is. some_is s next is) (λ h. h)
+  quiet_on (Event.Piece n) a sound tells punched adds turn = quiet_failed laws t old new sound tells n a (λ s next is. some_is s next is) turn.0.did
+      (ap (λ (core : CoreView). core.settings) turn.1) punched.ranges punched.are.0 punched.follows adds
+  quiet_on (Event.Collect k) (Answer.Collected n) sound tells punched adds turn = quiet_collect laws t old new sound tells k n punched adds turn
+  quiet_on (Event.Collect k) (Answer.FaultPunch j) sound tells punched adds turn = quiet_some laws t old new sound tells k j punched adds turn
+  quiet_on (Event.Collect k) (Answer.Refused NoServer) sound tells punched adds turn =
+      quiet_still laws t old new sound tells (Event.Collect k) (Answer.Refused NoServer) (λ s next is. some_is s next is) (λ h. h)
       (ap (λ (core : CoreView). core.settings) turn.1) turn.0.did.0 punched.ranges punched.are.0 punched.follows adds
-  quiet_on (event.Collect k) (answer.Refused NoScan) sound tells punched adds turn =
-      quiet_still laws t old new sound tells (event.Collect k) (answer.Refused NoScan) (λ s next is. some_is s next is) (λ h. h)
+  quiet_on (Event.Collect k) (Answer.Refused NoScan) sound tells punched adds turn =
+      quiet_still laws t old new sound tells (Event.Collect k) (Answer.Refused NoScan) (λ s next is. some_is s next is) (λ h. h)
       (ap (λ (core : CoreView). core.settings) turn.1) turn.0.did.0 punched.ranges punched.are.0 punched.follows adds
-  quiet_on (event.Collect k) a sound tells punched adds turn = absurd turn.0.did
+  quiet_on (Event.Collect k) a sound tells punched adds turn = absurd turn.0.did
   quiet_on e a sound tells punched adds turn = broken laws t old new sound tells e a (λ s next is. never next is) (λ h. h)
 
 -- ---- a save
@@ -413,7 +330,7 @@ no_job size told kv (Some x) (Some y) h none = absurd (cc)
 
 -- one of a machine of which nothing is open begins a quiet ending, where no other number is watched
 pub rests_saved : {S : Type 0} (kind : StoreKind S) (t : Span S) (told : Told) (old new : CoreView) (m : Machine) (n : ℕ) → StandsFor told old m → IsIdle m
-    → WatchesNoOther old.tables → LineTurn kind t old new event.Save (answer.Saved n) → IsAtStage kind t.after new Saved
+    → WatchesNoOther old.tables → LineTurn kind t old new Event.Save (Answer.Saved n) → IsAtStage kind t.after new Saved
 rests_saved kind t told old new m n stands idle unwatched turn =
     let saves = turn.0.2 in
     let size : ℕ = old.settings.region in
@@ -436,7 +353,7 @@ rests_saved kind t told old new m n stands idle unwatched turn =
 module _ {S : Type 0} {kind : StoreKind S} (laws : KindLaws kind) (t : Span S) (k : KeeperSpan) (old new : CoreView) (m : Machine) (j n : ℕ)
     (sound : AreSound old.tables) (stands : StandsFor (byte_at kind t.before) old m) (had : HasCollected kind t.before old j)
     (saved : HasSaved kind t k old.settings old.tables) (tells : k.before.tells ≡ true)
-    (punched : CorePunches kind t.before t.after old.tables.beside.gc new.tables.beside.gc event.Save (answer.Saved n))
+    (punched : CorePunches kind t.before t.after old.tables.beside.gc new.tables.beside.gc Event.Save (Answer.Saved n))
     (lengths : SameLengths kind t.before t.after) where
   abbrev was : Told
   was = byte_at kind t.before
@@ -466,7 +383,7 @@ module _ {S : Type 0} {kind : StoreKind S} (laws : KindLaws kind) (t : Span S) (
         region = on.region;
         row = on.row;
         there = says_all old.settings.region old.tables.next_tx (shown old.tables.kv) savable save.rows save.text.shape save.says
-            (key.Region on.inode on.region)
+            (Key.Region on.inode on.region)
             ∙ ap (λ (v : Option Value). option_map plain v) on.there;
         names = subst (λ (b : ℕ). region_has (lists_in b is) on.row p ≡ true) (sym (ap (λ h. h.region) save.header)) on.names;
       }

@@ -1,37 +1,14 @@
 -- What lines make of the lists that a core remembers.
-use Rattle.std.proofs.Common.{◌≡◌, ◌≤◌, ℕ, nat_lt, Bool, true, false, List, [], length, sym, ap, subst}
-use Rattle.std.specs.Bool.{MatchBool}
-use Rattle.wtf_base.specs.declared.settings.Settings.{Settings}
-use Rattle.wtf_dev.specs.Each.{EachFollows}
-use Rattle.wtf_dev.specs.Store.{Range, StoreKind, KindLaws}
-use Rattle.wtf_replica.specs.Bytes.{shown_byte}
-use Rattle.wtf_model.specs.declared.answer.Answer.{Answer}
-use Rattle.wtf_model.specs.declared.answer.Answer.TheVariants as answer
-use Rattle.wtf_model.specs.declared.answer.Word.TheVariants.{NoServer}
-use Rattle.wtf_region.specs.declared.dev.Dev.{Dev}
-use Rattle.wtf_region.specs.Apart.{with_ranges}
-use Rattle.wtf_region.specs.Cached.{CacheInside, CacheTrue}
-use Rattle.wtf_region.specs.Devs.{IsSoundDev, GoesOn, stores, remembered, shown_in, inside_of}
-use Rattle.wtf_region.specs.Inside.{is_inside}
-use Rattle.wtf_region.proofs.Frames.{CacheInside-on, CacheTrue-on}
-use Rattle.wtf_clients.specs.Views.{TablesView}
-use Rattle.wtf_core.specs.Made.{IsCoreMade}
-use Rattle.wtf_core.specs.Named.{IsInside}
-use Rattle.wtf_core.specs.Remembering.{KeepsLists}
-use Rattle.wtf_core.specs.Turns.{Switches, ServerTurn}
-use Rattle.wtf_core.specs.Views.{CoreView}
+use Rattle.wtf_core.proofs.Common.{MatchBool, Settings, EachFollows, Range, StoreKind, KindLaws, shown_byte, Answer, NoServer, Dev, with_ranges, CacheInside}
+use Rattle.wtf_core.proofs.Common.{CacheTrue, IsSoundDev, GoesOn, stores, remembered, shown_in, inside_of, is_inside, CacheInside-on, CacheTrue-on, TablesView}
+use Rattle.wtf_core.proofs.Common.{IsCoreMade, IsInside, KeepsLists, Switches, ServerTurn, CoreView, ◌≡◌, ◌≤◌, ℕ, nat_lt, Bool, true, false, List, [], length}
+use Rattle.wtf_core.proofs.Common.{sym, ap, subst}
 
 -- what a core lends to a line
 pub sound_dev : {S : Type 0} (kind : StoreKind S) (dev : Dev S) (tables : TablesView) → IsCoreMade dev.settings tables dev.replicas.now dev.ring.now
     dev.cache.now → dev.settings.servers ≤ length (stores dev)
     → CacheInside (inside_of kind dev) (remembered dev) → IsSoundDev kind dev
-sound_dev kind dev tables made enough lists = record {
-  replicas = made.replicas_are;
-  ring = made.ring_is;
-  shelf = enough;
-  cache = made.cache_is;
-  lists = lists;
-}
+sound_dev kind dev tables made enough lists = record { replicas = made.replicas_are; ring = made.ring_is; shelf = enough; cache = made.cache_is; lists = lists }
 
 -- and what it finds then
 pub goes_keeps : {S : Type 0} (kind : StoreKind S) (dev new : Dev S) {punched : List (ℕ × Range)} (old next : CoreView) → GoesOn kind dev new punched
@@ -43,8 +20,7 @@ goes_keeps kind dev new {punched} old next goes settings was is = record {
   true_still = λ ranges h.
       subst (CacheTrue (shown_in kind new) old.settings.region (with_ranges ranges punched)) (sym is)
       (subst (λ (st : Settings). CacheTrue (shown_in kind new) st.region (with_ranges ranges punched) (remembered new)) settings
-      (subst (λ (st : Settings). CacheTrue (shown_in kind new) st.region (with_ranges ranges punched) (remembered new)) goes.settings
-      (goes.lists ranges
+      (subst (λ (st : Settings). CacheTrue (shown_in kind new) st.region (with_ranges ranges punched) (remembered new)) goes.settings (goes.lists ranges
       (subst (λ (st : Settings). CacheTrue (shown_in kind dev) st.region ranges (remembered dev)) (sym settings)
       (subst (CacheTrue (shown_in kind dev) old.settings.region ranges) (sym was) h)))));
 }
@@ -70,7 +46,7 @@ save_keeps {kind = kind} laws before after each old next enough inside same = re
 
 -- and so does a server that goes down, or comes up
 server_same : (old new : CoreView) (k : ℕ) (down : Bool) (a : Answer) (there : Bool) → MatchBool there (Switches old new k down a)
-    ((a ≡ answer.Refused NoServer) × (new ≡ old)) → new.lists ≡ old.lists
+    ((a ≡ Answer.Refused NoServer) × (new ≡ old)) → new.lists ≡ old.lists
 server_same old new k down a true h = ap (λ (core : CoreView). core.lists) h.rest
 server_same old new k down a false h = ap (λ (core : CoreView). core.lists) h.1
 

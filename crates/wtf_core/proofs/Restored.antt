@@ -1,61 +1,15 @@
 -- A core that was loaded of an image: what it stands for, and that the keeper holds its image.
-use Rattle.std.proofs.Common.{◌≡◌, ◌≤◌, ℕ, false, cond, nat_eq, List, [], ◌∷◌, Option, None, Some, refl, sym, ap, subst, ◌∙◌, true≢false, ⊎_elim, arith, inl}
-use Rattle.std.proofs.Common.{inr}
-use Rattle.std.specs.FinMap.{get-empty}
-use Rattle.std.specs.List.{Contains}
-use Rattle.std.specs.Ordering.{nat_cmp}
-use Rattle.std.proofs.lemmas.List.{append-nil}
-use Rattle.std.proofs.lemmas.List.Elements.{Contains-push, Contains-push_cases}
-use Rattle.wtf_replica.specs.Downs.{is_down}
-use Rattle.std.proofs.lemmas.Bool.{cases_Bool, eqb-true}
-use Rattle.std.specs.Prelude.{IsTrue}
-use Rattle.wtf_dev.specs.Store.{StoreKind}
-use Rattle.wtf_region.specs.Cached.{CacheInside}
-use Rattle.wtf_region.specs.Inside.{is_inside}
-use Rattle.wtf_kv.specs.Stores.{Store, is_pinned}
-use Rattle.wtf_kv.proofs.PinLaws.{count-any, count-push}
-use Rattle.wtf_values.specs.declared.key.Key.{Key}
-use Rattle.wtf_values.specs.declared.region.RegionValue.{RegionValue}
-use Rattle.wtf_values.specs.declared.region.Spill.{Spill}
-use Rattle.wtf_values.specs.declared.value.Value.{Value}
-use Rattle.wtf_values.specs.declared.value.Value.TheVariants as value
-use Rattle.wtf_model.specs.Machines.{start}
-use Rattle.wtf_model.specs.Tree.{Tree}
-use Rattle.wtf_model.proofs.StepLaws.{is_down-start}
-use Rattle.wtf_meta.specs.Contents.{Told}
-use Rattle.wtf_meta.specs.Bytes.{BaseBytes, RegionBytes, any_slice}
-use Rattle.wtf_meta.specs.Maps.{Map}
-use Rattle.wtf_meta.specs.Trees.{Stands}
-use Rattle.wtf_image.specs.declared.loads.Loaded.{Loaded}
-use Rattle.wtf_image.specs.Loading.{AreSettingsOf}
-use Rattle.wtf_image.specs.Outcome.{IsLoadOf}
-use Rattle.wtf_image.specs.Tables.{shown}
-use Rattle.wtf_image.specs.Rows.{RegionRow, ImageRows, base_row}
+use Rattle.wtf_core.proofs.Common.{get-empty, Contains, nat_cmp, append-nil, Contains-push, Contains-push_cases, is_down, cases_Bool, eqb-true, IsTrue}
+use Rattle.wtf_core.proofs.Common.{StoreKind, CacheInside, is_inside, Store, is_pinned, count-any, count-push, Key, RegionValue, Spill, Value, start, Tree}
+use Rattle.wtf_core.proofs.Common.{is_down-start, Told, BaseBytes, RegionBytes, any_slice, Map, Stands, Loaded, AreSettingsOf, IsLoadOf, shown, RegionRow}
+use Rattle.wtf_core.proofs.Common.{ImageRows, base_row, HasText, plain, plain_region, row_at, Says, AreBefore, image_text, one_image, same_optional}
+use Rattle.wtf_core.proofs.Common.{says_itself, before_of, BesideView, unsaved, TablesView, of_client, of_label, metadata_now, CoreView, IsImageTree}
+use Rattle.wtf_core.proofs.Common.{StandsForSlot, StandsForLabel, StandsFor, any_byte, no_slice, IsInside, IsBareCore, IsCoreOf, only_image, all_owned}
+use Rattle.wtf_core.proofs.Common.{all_kept, AreSound, any_entries, bytes_alone, IsHeldBy, IsImageOfTree, IsBareImage, ◌≡◌, ◌≤◌, ℕ, false, cond, nat_eq, List}
+use Rattle.wtf_core.proofs.Common.{[], ◌∷◌, Option, None, Some, refl, sym, ap, subst, ◌∙◌, true≢false, ⊎_elim, arith, inl, inr}
+use Rattle.wtf_image.proofs.MapSaid.{map_said}
 use Rattle.wtf_image.specs.Rules.{size_in}
-use Rattle.wtf_image.specs.Images.{HasText}
-use Rattle.wtf_image.specs.Lookups.{plain, plain_region, row_at}
-use Rattle.wtf_image.specs.Saving.{Says}
-use Rattle.wtf_image.specs.Savable.{AreBefore}
-use Rattle.wtf_image.specs.Texts.{image_text}
-use Rattle.wtf_image.proofs.Forms.{one_image}
-use Rattle.wtf_image.proofs.PlainLaws.{same_optional}
-use Rattle.wtf_image.proofs.Said.{says_itself, before_of}
-use Rattle.wtf_core.proofs.Fetched.{map_said, image_inside}
-use Rattle.wtf_core.proofs.Aged.{kinds_of}
-use Rattle.wtf_core.proofs.Started.{nothing_in, none_of, idle_of, lie_first, scans_first}
-use Rattle.wtf_clients.specs.Views.{BesideView, unsaved, TablesView, of_client, of_label, metadata_now}
-use Rattle.wtf_core.specs.Views.{CoreView}
-use Rattle.wtf_clients.specs.Standing.{IsImageTree, StandsForSlot, StandsForLabel}
-use Rattle.wtf_core.specs.Standing.{StandsFor}
-use Rattle.wtf_clients.specs.Named.{any_byte, no_slice}
-use Rattle.wtf_core.specs.Named.{IsInside, IsBareCore}
-use Rattle.wtf_core.specs.Loading.{IsCoreOf}
-use Rattle.wtf_clients.specs.Saves.{only_image}
-use Rattle.wtf_clients.specs.Sounds.{all_owned, all_kept, AreSound}
-use Rattle.wtf_clients.proofs.Lacking.{any_entries}
-use Rattle.wtf_clients.proofs.Naming.{bytes_alone}
-use Rattle.wtf_clients.specs.Keeping.{IsHeldBy}
-use Rattle.wtf_core.specs.Pictured.{IsImageOfTree, IsBareImage}
+use Rattle.wtf_core.proofs.{Fetched.image_inside, Aged.kinds_of, Started.nothing_in, Started.none_of, Started.idle_of, Started.lie_first, Started.scans_first}
 
 -- bytes are one image at most
 same_rows : (x y : ImageRows) (bytes : List ℕ) → HasText x bytes → HasText y bytes → x ≡ y
@@ -186,7 +140,7 @@ base_none : (base : Option Spill) → base_row base ≡ None → BaseBytes any_b
 base_none None is = tt
 base_none (Some s) is = absurd (cc)
 
-region_bare : (v : RegionValue) (row : RegionRow) → plain (value.Region v) ≡ plain_region row → row.base ≡ None → RegionBytes any_byte no_slice v
+region_bare : (v : RegionValue) (row : RegionRow) → plain (Value.Region v) ≡ plain_region row → row.base ≡ None → RegionBytes any_byte no_slice v
 region_bare v row is none =
     let same : base_row v.base ≡ row.base = cc in
     record { base = base_none v.base (same ∙ none); entries = any_entries v.list }

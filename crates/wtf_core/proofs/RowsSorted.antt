@@ -1,11 +1,6 @@
 -- Lists of entries whose keys rise, with one more entry at their end.
-use Rattle.std.proofs.Common.{◌≡◌, Bool, true, false, cond, ◌&&◌, T, List, [], ◌∷◌, ◌++◌, map, Some, is_some, refl, ap, subst, sym}
-use Rattle.std.specs.declared.cmp.Ordering.{Ordering}
-use Rattle.std.specs.declared.cmp.Ordering.TheVariants.{Less}
-use Rattle.std.specs.Ordering.{is_lt, is_eq, eq_by_cmp}
-use Rattle.std.specs.Option.{option_map}
-use Rattle.std.specs.Cmp.{IsTotalOrder, tied_itself}
-use Rattle.std.specs.FinMap.Entries.{find, is_sorted, below_all}
+use Rattle.wtf_core.proofs.Common.{Ordering, Less, is_lt, is_eq, eq_by_cmp, option_map, IsTotalOrder, tied_itself, find, is_sorted, below_all, ◌≡◌, Bool, true}
+use Rattle.wtf_core.proofs.Common.{false, cond, ◌&&◌, T, List, [], ◌∷◌, ◌++◌, map, Some, is_some, refl, ap, subst, sym}
 
 both : (a b : Bool) → T a → T b → T (a && b)
 both true b p q = q

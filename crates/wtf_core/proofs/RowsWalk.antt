@@ -1,25 +1,10 @@
 -- A walk over the paths of a store, row by row.
-use Rattle.std.proofs.Common.{◌≡◌, ℕ, true, false, cond, T, List, [], ◌∷◌, Option, None, Some, is_some, refl, sym, ap, subst, ◌∙◌, ⊎_elim}
-use Rattle.std.proofs.lemmas.Bool.{cases_Bool, both_ways}
-use Rattle.std.proofs.lemmas.List.{map-append}
-use Rattle.std.specs.declared.cmp.Ordering.{Ordering}
-use Rattle.std.specs.declared.cmp.Ordering.TheVariants.{Less, Equal, Greater}
-use Rattle.std.specs.Ordering.{is_lt, is_eq, eq_by_cmp, ordering_reverse}
-use Rattle.std.specs.Cmp.{tied_itself}
-use Rattle.std.specs.Cmp.Lexicographic.{nat_list_cmp_total}
-use Rattle.std.specs.FinMap.{slice_cmp-IsAntisymmetric, nat_cmp-IsAntisymmetric}
-use Rattle.std.specs.FinMap.Entries.{find, is_sorted, find-append}
-use Rattle.wtf_kv.specs.Seen.{last_seen, value_seen, has_any}
-use Rattle.wtf_kv.specs.Stores.{Store, versions_of}
-use Rattle.wtf_kv.specs.Order.{is_past, is_before, has_version, IsNextKey, IsReached}
-use Rattle.wtf_kv.proofs.KeyLaws.{between, reached}
-use Rattle.wtf_model.specs.declared.lists.Row.{Row}
-use Rattle.wtf_values.specs.Keys.{key_cmp, same_key}
-use Rattle.wtf_values.specs.declared.key.Key.{Key}
-use Rattle.wtf_values.specs.declared.key.Key.TheVariants.{Path}
-use Rattle.wtf_values.specs.declared.value.Value.{Value}
-use Rattle.wtf_values.proofs.KeyLaws.{key_total}
-use Rattle.wtf_core.specs.Rows.{path_cmp, map_now, ShownPaths, shown_value, shown_at, shown_below, with_row, entries_of, IsShown}
+use Rattle.wtf_core.proofs.Common.{cases_Bool, both_ways, map-append, Ordering, Less, Equal, Greater, is_lt, is_eq, eq_by_cmp, ordering_reverse, tied_itself}
+use Rattle.wtf_core.proofs.Common.{nat_list_cmp_total, slice_cmp-IsAntisymmetric, nat_cmp-IsAntisymmetric, find, is_sorted, find-append, last_seen, value_seen}
+use Rattle.wtf_core.proofs.Common.{has_any, Store, versions_of, is_past, is_before, has_version, IsNextKey, IsReached, reached, Row, key_cmp, same_key, Key}
+use Rattle.wtf_core.proofs.Common.{Path, Value, key_total, path_cmp, map_now, ShownPaths, shown_value, shown_at, shown_below, with_row, entries_of, IsShown}
+use Rattle.wtf_core.proofs.Common.{◌≡◌, ℕ, true, false, cond, T, List, [], ◌∷◌, Option, None, Some, is_some, refl, sym, ap, subst, ◌∙◌, ⊎_elim}
+use Rattle.wtf_kv.proofs.KeyLaws.{between}
 use Rattle.wtf_core.proofs.RowsSorted.{is_sorted-push}
 
 less_is : (o : Ordering) → is_lt o ≡ true → o ≡ Less

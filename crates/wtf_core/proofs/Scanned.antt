@@ -1,45 +1,23 @@
 -- Lines of scans and collections keep the tables sound, and a scan names nothing new.
-use Rattle.std.proofs.Common.{◌≡◌, ◌∙◌, ℕ, List, [], sym, ap, subst}
-use Rattle.wtf_base.specs.declared.settings.Settings.{Settings}
-use Rattle.wtf_dev.specs.Store.{Range, StoreKind, KindLaws}
-use Rattle.wtf_ring.specs.Points.{IsRing}
-use Rattle.wtf_replica.specs.Downs.{is_down}
-use Rattle.wtf_replica.specs.Spans.{span}
-use Rattle.wtf_region.specs.declared.dev.Dev.{Dev}
-use Rattle.wtf_region.specs.Cached.{CacheTrue}
-use Rattle.wtf_region.specs.Devs.{IsSoundDev, GoesOn, stores, remembered, told_in, shown_in}
-use Rattle.wtf_replica.proofs.Bytes.{byte_at-kept}
-use Rattle.wtf_region.proofs.Spans.{goes_nowhere, goes_on}
-use Rattle.wtf_meta.specs.Contents.{Told}
-use Rattle.wtf_model.specs.declared.answer.Answer.{Answer}
-use Rattle.wtf_model.specs.declared.answer.Answer.TheVariants as answer
-use Rattle.wtf_model.specs.declared.answer.Word.TheVariants.{NoServer, ScanBusy, NoScan}
-use Rattle.wtf_clients.specs.Named.{TablesBytes}
-use Rattle.wtf_clients.specs.Safe.{IsSafe}
-use Rattle.wtf_clients.specs.ScanTurns.{ScanTurn, DoesTurn, PieceTurn, CollectTurn}
-use Rattle.wtf_clients.specs.Telling.{TellsTables}
-use Rattle.wtf_clients.specs.Serves.{NamesTables, IsPlain}
-use Rattle.wtf_clients.specs.Sounds.{AreSound}
-use Rattle.wtf_clients.specs.Views.{BesideView, TablesView}
-use Rattle.wtf_clients.proofs.ScanFrames.{start_reads, start_maps}
-use Rattle.wtf_clients.proofs.ScanLaws.{kept_names}
-use Rattle.wtf_clients.proofs.Scanning.{later_safe, tells_after, piece_tells, piece_safe, pruned_tells, pruned_safe}
-use Rattle.wtf_core.specs.Turns.{IsByDevices}
-use Rattle.wtf_core.specs.Views.{CoreView}
+use Rattle.wtf_core.proofs.Common.{Settings, Range, StoreKind, KindLaws, IsRing, is_down, span, Dev, CacheTrue, IsSoundDev, GoesOn, stores, remembered, told_in}
+use Rattle.wtf_core.proofs.Common.{shown_in, byte_at-kept, goes_nowhere, goes_on, Told, Answer, NoServer, ScanBusy, NoScan, TablesBytes, IsSafe, ScanTurn}
+use Rattle.wtf_core.proofs.Common.{DoesTurn, PieceTurn, CollectTurn, TellsTables, NamesTables, IsPlain, AreSound, BesideView, TablesView, start_reads}
+use Rattle.wtf_core.proofs.Common.{start_maps, kept_names, later_safe, tells_after, piece_tells, piece_safe, pruned_tells, pruned_safe, IsByDevices, CoreView}
+use Rattle.wtf_core.proofs.Common.{◌≡◌, ◌∙◌, ℕ, List, [], sym, ap, subst}
 
 module _ {S : Type 0} (kind : StoreKind S) (shelf : List S) (old new : TablesView) (sound : AreSound old) where
   pub scan_names : (a : Answer) → ScanTurn kind shelf old new a → NamesTables old new
-  scan_names (answer.Refused ScanBusy) h = λ P Q hole was. subst (λ (t : TablesView). TablesBytes P Q t) (sym h.0) was
-  scan_names (answer.Held who) h = λ P Q hole was. subst (λ (t : TablesView). TablesBytes P Q t) (sym h.0) was
-  scan_names answer.Scanning h =
+  scan_names (Answer.Refused ScanBusy) h = λ P Q hole was. subst (λ (t : TablesView). TablesBytes P Q t) (sym h.0) was
+  scan_names (Answer.Held who) h = λ P Q hole was. subst (λ (t : TablesView). TablesBytes P Q t) (sym h.0) was
+  scan_names Answer.Scanning h =
       kept_names old new sound (start_reads kind shelf old new sound h) (λ n live. start_maps kind shelf old new sound h n) h.clients
       (ap (λ (b : BesideView). b.jobs) h.beside)
   scan_names a h = absurd h
 
   pub scan_plain : (a : Answer) → ScanTurn kind shelf old new a → IsPlain a
-  scan_plain (answer.Refused ScanBusy) h = tt
-  scan_plain (answer.Held who) h = tt
-  scan_plain answer.Scanning h = tt
+  scan_plain (Answer.Refused ScanBusy) h = tt
+  scan_plain (Answer.Held who) h = tt
+  scan_plain Answer.Scanning h = tt
   scan_plain a h = absurd h
 
 -- devices that were lent
@@ -99,9 +77,9 @@ module _ {S : Type 0} {kind : StoreKind S} (laws : KindLaws kind) (before after 
   )
 
   pub piece_next : (n : ℕ) (a : Answer) → PieceTurn kind before after old new n a → Next
-  piece_next n (answer.Refused NoScan) h = same_next h.0
-  piece_next n (answer.More left) h = does_next n left h.1
-  piece_next n answer.Done h = does_next n 0 h
+  piece_next n (Answer.Refused NoScan) h = same_next h.0
+  piece_next n (Answer.More left) h = does_next n left h.1
+  piece_next n Answer.Done h = does_next n 0 h
   piece_next n a h = (
     pruned_tells laws before after goes.each goes.settings old new sound tells h.pruned stay,
     pruned_safe laws before after goes.each goes.settings old new sound tells h.pruned,
@@ -117,8 +95,8 @@ module _ {S : Type 0} {kind : StoreKind S} (laws : KindLaws kind) (before after 
   nowhere stay = ([], subst (λ (dev : Dev S). GoesOn kind before dev []) (sym stay) (goes_nowhere laws before sound))
 
   pub collect_goes : (a : Answer) → CollectTurn kind before after old new k a → Goes
-  collect_goes (answer.Refused NoServer) h = nowhere h.1
-  collect_goes (answer.Refused NoScan) h = nowhere h.1
-  collect_goes (answer.Collected n) h = (h.1.frees.ranges, h.1.frees.goes)
-  collect_goes (answer.FaultPunch j) h = (_, goes_on laws h.1.frees.goes h.1.frees.last)
+  collect_goes (Answer.Refused NoServer) h = nowhere h.1
+  collect_goes (Answer.Refused NoScan) h = nowhere h.1
+  collect_goes (Answer.Collected n) h = (h.1.frees.ranges, h.1.frees.goes)
+  collect_goes (Answer.FaultPunch j) h = (_, goes_on laws h.1.frees.goes h.1.frees.last)
   collect_goes a h = absurd h

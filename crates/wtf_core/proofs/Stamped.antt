@@ -1,26 +1,10 @@
 -- What lines that begin no scan, and do no part of one, leave of the machine's scans and of the stamps of what is open.
-use Rattle.std.proofs.Common.{◌≡◌, ◌≢◌, ◌<◌, ◌≤◌, ℕ, ◌+◌, Bool, true, false, if◌then◌else◌, List, [], Option, None, Some, refl}
-use Rattle.std.proofs.Common.{sym, ap, ◌∙◌, subst, ⊎_elim, arith}
-use Rattle.std.specs.FinMap.{FinMap, get, insert, remove}
-use Rattle.std.specs.Ordering.{nat_cmp}
-use Rattle.std.specs.Prelude.{⊤}
-use Rattle.wtf_model.specs.declared.answer.Answer.{Answer, Aborted'}
-use Rattle.wtf_model.specs.declared.answer.Answer.TheVariants as answer
-use Rattle.wtf_model.specs.declared.op.JobKind.{JobKind}
-use Rattle.wtf_model.specs.declared.event.Event.{Event}
-use Rattle.wtf_model.specs.declared.event.Event.TheVariants as event
-use Rattle.wtf_model.specs.declared.event.Verb.{Verb}
-use Rattle.wtf_model.specs.declared.event.Verb.TheVariants as verb
-use Rattle.wtf_model.specs.declared.item.Item.{Item}
-use Rattle.wtf_model.specs.Items.{writes_of}
-use Rattle.wtf_model.specs.Jobs.{job_changes}
-use Rattle.wtf_model.specs.Machines.{Machine, cap_of}
-use Rattle.wtf_model.specs.Transaction.{Transaction, Job}
-use Rattle.wtf_model.specs.Steps.{after, after_client, begun, tried, stepped, committed, aborted, ended, is_logged, logged, with_transaction, with_each, touch}
-use Rattle.wtf_model.specs.Steps.{touch_job, installed, saved, with_job, put_in_place, dropped}
-use Rattle.wtf_model.proofs.ItemLaws.{get-each_none, get-each_some}
-use Rattle.wtf_model.proofs.Laws.{get-number_same, get-number_other}
-use Rattle.wtf_clients.proofs.Pins.{number_cases}
+use Rattle.wtf_core.proofs.Common.{FinMap, get, insert, remove, nat_cmp, ⊤, Answer, Aborted', JobKind, Event, Verb, Item, writes_of, job_changes, Machine}
+use Rattle.wtf_core.proofs.Common.{cap_of, Transaction, Job, after, after_client, tried, stepped, committed, aborted, ended, is_logged, logged}
+use Rattle.wtf_core.proofs.Common.{with_transaction, with_each, touch, touch_job, installed, saved, with_job, put_in_place, dropped, get-each_none}
+use Rattle.wtf_core.proofs.Common.{get-each_some, get-number_same, get-number_other, number_cases, ◌≡◌, ◌≢◌, ◌<◌, ◌≤◌, ℕ, ◌+◌, Bool, true, false, if◌then◌else◌}
+use Rattle.wtf_core.proofs.Common.{List, [], Option, None, Some, refl, sym, ap, ◌∙◌, subst, ⊎_elim, arith}
+use Rattle.wtf_model.specs.Steps.{begun}
 use Rattle.wtf_core.proofs.Machines.{gone_here, gone_there}
 
 -- ---- maps of what is open
@@ -102,70 +86,62 @@ module _ {P : Type 0} where
     jobs = same_stamps job_stamp m.next_stamp m.next_stamp m.jobs;
   }
 
-  set_stamped : (m : Machine) (c : ℕ) (t u : Transaction) → get m.transactions c ≡ Some t → u.stamp ≡ t.stamp → Stamped P m (with_transaction m c u)
-  set_stamped m c t u there same = record {
-    settings = refl;
-    may = λ p. refl;
-    up = omega arith;
-    list = refl;
-    parts = refl;
-    scans = refl;
-    txns = set_stamps txn_stamp m.next_stamp m.next_stamp m.transactions c u
-        (subst (λ o. HasStamp txn_stamp m.next_stamp m.next_stamp o u.stamp) (sym there) same);
-    jobs = same_stamps job_stamp m.next_stamp m.next_stamp m.jobs;
+  -- another number, another tree, and others open
+  open_stamped : (m next : Machine)
+      → next ≡ record m { number = next.number; now = next.now; next_stamp = next.next_stamp; transactions = next.transactions; jobs = next.jobs }
+      → m.next_stamp ≤ next.next_stamp → HaveStamps txn_stamp m.next_stamp next.next_stamp m.transactions next.transactions
+      → HaveStamps job_stamp m.next_stamp next.next_stamp m.jobs next.jobs → Stamped P m next
+  open_stamped m next is up txns jobs = record {
+    settings = ap (λ (n : Machine). n.settings) is;
+    may = λ p. ap (λ (n : Machine). n.may_be_saved) is;
+    up = up;
+    list = ap (λ (n : Machine). n.scan_list) is;
+    parts = ap (λ (n : Machine). n.parts_left) is;
+    scans = ap (λ (n : Machine). n.scans) is;
+    txns = txns;
+    jobs = jobs;
   }
+
+  set_stamped : (m : Machine) (c : ℕ) (t u : Transaction) → get m.transactions c ≡ Some t → u.stamp ≡ t.stamp → Stamped P m (with_transaction m c u)
+  set_stamped m c t u there same = open_stamped m (with_transaction m c u) refl (omega arith)
+      (set_stamps txn_stamp m.next_stamp m.next_stamp m.transactions c u (subst (λ o. HasStamp txn_stamp m.next_stamp m.next_stamp o u.stamp) (sym there) same))
+      (same_stamps job_stamp m.next_stamp m.next_stamp m.jobs)
 
   ended_stamped : (m : Machine) (c : ℕ) → Stamped P m (ended m c)
-  ended_stamped m c = record {
-    settings = refl;
-    may = λ p. refl;
-    up = omega arith;
-    list = refl;
-    parts = refl;
-    scans = refl;
-    txns = gone_stamps txn_stamp m.next_stamp m.next_stamp m.transactions c;
-    jobs = same_stamps job_stamp m.next_stamp m.next_stamp m.jobs;
-  }
+  ended_stamped m c = open_stamped m (ended m c) refl (omega arith)
+      (gone_stamps txn_stamp m.next_stamp m.next_stamp m.transactions c) (same_stamps job_stamp m.next_stamp m.next_stamp m.jobs)
 
   begun_stamped : (m : Machine) (c : ℕ) (a : Answer) → get m.transactions c ≡ None → Stamped P m (begun m c a)
-  begun_stamped m c (answer.Begun n) none =
+  begun_stamped m c (Answer.Begun n) none =
       let t : Transaction = record { stamp = m.next_stamp; base = m.number; tree = m.now; ops = []; shown = []; replayed = 0; touched = [] } in
-      record {
-        settings = refl;
-        may = λ p. refl;
-        up = omega arith;
-        list = refl;
-        parts = refl;
-        scans = refl;
-        txns = set_stamps txn_stamp m.next_stamp (m.next_stamp + 1) m.transactions c t
-            (subst (λ o. HasStamp txn_stamp m.next_stamp (m.next_stamp + 1) o m.next_stamp) (sym none) (refl, omega arith));
-        jobs = same_stamps job_stamp m.next_stamp (m.next_stamp + 1) m.jobs;
-      }
+      open_stamped m (begun m c (Answer.Begun n)) refl (omega arith) (set_stamps txn_stamp m.next_stamp (m.next_stamp + 1) m.transactions c t
+      (subst (λ o. HasStamp txn_stamp m.next_stamp (m.next_stamp + 1) o m.next_stamp) (sym none) (refl, omega arith)))
+      (same_stamps job_stamp m.next_stamp (m.next_stamp + 1) m.jobs)
   begun_stamped m c a none = same_stamped m
 
   installed_stamped : (m : Machine) (c : ℕ) (t : Transaction) (n : ℕ) → Stamped P m (installed m c t n)
   installed_stamped m c t n =
       let both = touched_stamped m (writes_of (cap_of m) m.now t.ops) (remove m.transactions c) m.jobs
       (gone_stamps txn_stamp m.next_stamp m.next_stamp m.transactions c) (same_stamps job_stamp m.next_stamp m.next_stamp m.jobs) in
-      record { settings = refl; may = λ p. refl; up = omega arith; list = refl; parts = refl; scans = refl; txns = both.0; jobs = both.1 }
+      open_stamped m (installed m c t n) refl (omega arith) both.0 both.1
 
   tried_stamped : (m : Machine) (c : ℕ) (t : Transaction) (a : Answer) → get m.transactions c ≡ Some t → Stamped P m (tried m c t a)
-  tried_stamped m c t (answer.Committed n) there = installed_stamped m c t n
-  tried_stamped m c t (answer.Retry b n) there = set_stamped m c t _ there refl
+  tried_stamped m c t (Answer.Committed n) there = installed_stamped m c t n
+  tried_stamped m c t (Answer.Retry b n) there = set_stamped m c t _ there refl
   tried_stamped m c t a there = same_stamped m
 
   stepped_stamped : (m : Machine) (c : ℕ) (t : Transaction) (a : Answer) → get m.transactions c ≡ Some t → Stamped P m (stepped m c t a)
-  stepped_stamped m c t (answer.Replayed i) there = set_stamped m c t (record t { replayed = i }) there refl
+  stepped_stamped m c t (Answer.Replayed i) there = set_stamped m c t (record t { replayed = i }) there refl
   stepped_stamped m c t (Aborted' i box a) there = ended_stamped m c
   stepped_stamped m c t a there = same_stamped m
 
   committed_stamped : (m : Machine) (c : ℕ) (t : Transaction) (a : Answer) → Stamped P m (committed m c t a)
-  committed_stamped m c t (answer.Committed n) = installed_stamped m c t n
+  committed_stamped m c t (Answer.Committed n) = installed_stamped m c t n
   committed_stamped m c t (Aborted' i box a) = ended_stamped m c
   committed_stamped m c t a = same_stamped m
 
   aborted_stamped : (m : Machine) (c : ℕ) (a : Answer) → Stamped P m (aborted m c a)
-  aborted_stamped m c answer.Okay = ended_stamped m c
+  aborted_stamped m c Answer.Okay = ended_stamped m c
   aborted_stamped m c a = same_stamped m
 
   either_stamped : (m later : Machine) (b : Bool) → Stamped P m later → Stamped P m (if b then later else m)
@@ -173,54 +149,38 @@ module _ {P : Type 0} where
   either_stamped m later false h = same_stamped m
 
   client_stamped : (m : Machine) (c : ℕ) (o : Option Transaction) (v : Verb) (a : Answer) → get m.transactions c ≡ o → Stamped P m (after_client m c o v a)
-  client_stamped m c None verb.Begin a is = begun_stamped m c a is
-  client_stamped m c (Some t) verb.Try a is = tried_stamped m c t a is
-  client_stamped m c (Some t) verb.Step a is = stepped_stamped m c t a is
-  client_stamped m c (Some t) verb.Commit a is = committed_stamped m c t a
-  client_stamped m c (Some t) verb.Abort a is = aborted_stamped m c a
-  client_stamped m c (Some t) (verb.Call o) a is = either_stamped m (with_transaction m c (logged t o a)) (is_logged a)
+  client_stamped m c None Verb.Begin a is = begun_stamped m c a is
+  client_stamped m c (Some t) Verb.Try a is = tried_stamped m c t a is
+  client_stamped m c (Some t) Verb.Step a is = stepped_stamped m c t a is
+  client_stamped m c (Some t) Verb.Commit a is = committed_stamped m c t a
+  client_stamped m c (Some t) Verb.Abort a is = aborted_stamped m c a
+  client_stamped m c (Some t) (Verb.Call o) a is = either_stamped m (with_transaction m c (logged t o a)) (is_logged a)
       (set_stamped m c t (logged t o a) is refl)
   client_stamped m c o v a is = same_stamped m
 
-  planned_stamped : (m : Machine) (j : ℕ) (kind : JobKind) (p : List ℕ) (r : ℕ) (a : Answer) → (a ≡ answer.Planned → get m.jobs j ≡ None)
+  planned_stamped : (m : Machine) (j : ℕ) (kind : JobKind) (p : List ℕ) (r : ℕ) (a : Answer) → (a ≡ Answer.Planned → get m.jobs j ≡ None)
       → Stamped P m (with_job m j kind p r a)
-  planned_stamped m j kind p r answer.Planned free =
+  planned_stamped m j kind p r Answer.Planned free =
       let job : Job = record { stamp = m.next_stamp; path = p; region = r; kind = kind; base = m.number; touched = [] } in
-      record {
-        settings = refl;
-        may = λ p. refl;
-        up = omega arith;
-        list = refl;
-        parts = refl;
-        scans = refl;
-        txns = same_stamps txn_stamp m.next_stamp (m.next_stamp + 1) m.transactions;
-        jobs = set_stamps job_stamp m.next_stamp (m.next_stamp + 1) m.jobs j job
-            (subst (λ o. HasStamp job_stamp m.next_stamp (m.next_stamp + 1) o m.next_stamp) (sym (free refl)) (refl, omega arith));
-      }
+      open_stamped m (with_job m j kind p r Answer.Planned) refl (omega arith) (same_stamps txn_stamp m.next_stamp (m.next_stamp + 1) m.transactions)
+      (set_stamps job_stamp m.next_stamp (m.next_stamp + 1) m.jobs j job
+      (subst (λ o. HasStamp job_stamp m.next_stamp (m.next_stamp + 1) o m.next_stamp) (sym (free refl)) (refl, omega arith)))
   planned_stamped m j kind p r a free = same_stamped m
 
   without_stamped : (m : Machine) (j : ℕ) → Stamped P m (record m { jobs = remove m.jobs j })
-  without_stamped m j = record {
-    settings = refl;
-    may = λ p. refl;
-    up = omega arith;
-    list = refl;
-    parts = refl;
-    scans = refl;
-    txns = same_stamps txn_stamp m.next_stamp m.next_stamp m.transactions;
-    jobs = gone_stamps job_stamp m.next_stamp m.next_stamp m.jobs j;
-  }
+  without_stamped m j = open_stamped m (record m { jobs = remove m.jobs j }) refl (omega arith)
+      (same_stamps txn_stamp m.next_stamp m.next_stamp m.transactions) (gone_stamps job_stamp m.next_stamp m.next_stamp m.jobs j)
 
   put_stamped : (m : Machine) (j : ℕ) (a : Answer) → Stamped P m (put_in_place m j a)
-  put_stamped m j (answer.Installed n) =
+  put_stamped m j (Answer.Installed n) =
       let both = touched_stamped m (job_changes m.now (get m.jobs j)) m.transactions (remove m.jobs j)
       (same_stamps txn_stamp m.next_stamp m.next_stamp m.transactions) (gone_stamps job_stamp m.next_stamp m.next_stamp m.jobs j) in
-      record { settings = refl; may = λ p. refl; up = omega arith; list = refl; parts = refl; scans = refl; txns = both.0; jobs = both.1 }
-  put_stamped m j (answer.Stale b n) = without_stamped m j
+      open_stamped m (put_in_place m j (Answer.Installed n)) refl (omega arith) both.0 both.1
+  put_stamped m j (Answer.Stale b n) = without_stamped m j
   put_stamped m j a = same_stamped m
 
   dropped_stamped : (m : Machine) (j : ℕ) (a : Answer) → Stamped P m (dropped m j a)
-  dropped_stamped m j answer.Okay = without_stamped m j
+  dropped_stamped m j Answer.Okay = without_stamped m j
   dropped_stamped m j a = same_stamped m
 
   -- a machine that differs in its servers, or in what may be saved
@@ -238,40 +198,40 @@ module _ {P : Type 0} where
     jobs = λ j t is. same_stamps job_stamp m.next_stamp next.next_stamp m.jobs j t (ap (λ js. get js j) (sym jobs) ∙ is);
   }
 
-  down_stamped : (m : Machine) (k : ℕ) (a : Answer) → Stamped P m (after m (event.Down k) a)
-  down_stamped m k answer.Okay = beside_stamped m (after m (event.Down k) answer.Okay) refl (λ p. refl) refl refl refl refl refl refl
+  down_stamped : (m : Machine) (k : ℕ) (a : Answer) → Stamped P m (after m (Event.Down k) a)
+  down_stamped m k Answer.Okay = beside_stamped m (after m (Event.Down k) Answer.Okay) refl (λ p. refl) refl refl refl refl refl refl
   down_stamped m k a = same_stamped m
 
-  up_stamped : (m : Machine) (k : ℕ) (a : Answer) → Stamped P m (after m (event.Up k) a)
-  up_stamped m k answer.Okay = beside_stamped m (after m (event.Up k) answer.Okay) refl (λ p. refl) refl refl refl refl refl refl
+  up_stamped : (m : Machine) (k : ℕ) (a : Answer) → Stamped P m (after m (Event.Up k) a)
+  up_stamped m k Answer.Okay = beside_stamped m (after m (Event.Up k) Answer.Okay) refl (λ p. refl) refl refl refl refl refl refl
   up_stamped m k a = same_stamped m
 
 -- a save changes those
-saved_stamped : (m : Machine) (a : Answer) → Stamped (event.Save ≢ event.Save) m (saved m a)
-saved_stamped m (answer.Saved n) = beside_stamped m (saved m (answer.Saved n)) refl (λ ne. absurd (ne refl)) refl refl refl refl refl refl
-saved_stamped m answer.FaultSave = beside_stamped m (saved m answer.FaultSave) refl (λ ne. absurd (ne refl)) refl refl refl refl refl refl
+saved_stamped : (m : Machine) (a : Answer) → Stamped (Event.Save ≢ Event.Save) m (saved m a)
+saved_stamped m (Answer.Saved n) = beside_stamped m (saved m (Answer.Saved n)) refl (λ ne. absurd (ne refl)) refl refl refl refl refl refl
+saved_stamped m Answer.FaultSave = beside_stamped m (saved m Answer.FaultSave) refl (λ ne. absurd (ne refl)) refl refl refl refl refl refl
 saved_stamped m a = same_stamped m
 
 -- lines that begin no scan, do no part of one and collect nothing
 abbrev pub IsOther : Event → Type 0
-IsOther event.Scan = ⊥
-IsOther (event.Piece n) = ⊥
-IsOther (event.Collect k) = ⊥
+IsOther Event.Scan = ⊥
+IsOther (Event.Piece n) = ⊥
+IsOther (Event.Collect k) = ⊥
 IsOther e = ⊤
 
 -- a job is planned under a label that has none
 abbrev pub IsFree : Machine → Event → Answer → Type 0
-IsFree m (event.Plan j kind p r) a = a ≡ answer.Planned → get m.jobs j ≡ None
+IsFree m (Event.Plan j kind p r) a = a ≡ Answer.Planned → get m.jobs j ≡ None
 IsFree m e a = ⊤
 
-pub event_stamped : (m : Machine) (e : Event) (a : Answer) → IsOther e → IsFree m e a → Stamped (e ≢ event.Save) m (after m e a)
-event_stamped m (event.Client c v) a other free = client_stamped m c (get m.transactions c) v a refl
-event_stamped m (event.Plan j kind p r) a other free = planned_stamped m j kind p r a free
-event_stamped m (event.Put j) a other free = put_stamped m j a
-event_stamped m (event.DropJob j) a other free = dropped_stamped m j a
-event_stamped m (event.Down k) a other free = down_stamped m k a
-event_stamped m (event.Up k) a other free = up_stamped m k a
-event_stamped m event.Save a other free = saved_stamped m a
-event_stamped m (event.Dump p) a other free = same_stamped m
-event_stamped m event.Tree a other free = same_stamped m
+pub event_stamped : (m : Machine) (e : Event) (a : Answer) → IsOther e → IsFree m e a → Stamped (e ≢ Event.Save) m (after m e a)
+event_stamped m (Event.Client c v) a other free = client_stamped m c (get m.transactions c) v a refl
+event_stamped m (Event.Plan j kind p r) a other free = planned_stamped m j kind p r a free
+event_stamped m (Event.Put j) a other free = put_stamped m j a
+event_stamped m (Event.DropJob j) a other free = dropped_stamped m j a
+event_stamped m (Event.Down k) a other free = down_stamped m k a
+event_stamped m (Event.Up k) a other free = up_stamped m k a
+event_stamped m Event.Save a other free = saved_stamped m a
+event_stamped m (Event.Dump p) a other free = same_stamped m
+event_stamped m Event.Tree a other free = same_stamped m
 event_stamped m e a other free = absurd other

@@ -1,43 +1,11 @@
 -- The core before the first line.
-use Rattle.std.proofs.Common.{◌≡◌, ◌≤◌, ℕ, ◌+◌, ◌*◌, nat_lt, cond, Bool, List, [], true, false, Option, None, Some, IsTrue, sym, ap, subst, ◌∙◌, ⊎_elim}
-use Rattle.std.proofs.Common.{true≢false, arith}
-use Rattle.std.specs.Prelude.{slice_index_or}
-use Rattle.std.specs.Option.{option_map}
-use Rattle.std.specs.FinMap.{get-empty}
-use Rattle.std.specs.List.{Contains}
-use Rattle.std.proofs.lemmas.List.Elements.{Contains-push}
-use Rattle.std.specs.Ordering.{nat_cmp}
-use Rattle.wtf_base.specs.declared.settings.Settings.{Settings}
-use Rattle.wtf_replica.specs.Downs.{is_down}
-use Rattle.wtf_model.specs.Machines.{start}
-use Rattle.wtf_base.specs.declared.slice.Slice.{Slice}
+use Rattle.wtf_core.proofs.Common.{slice_index_or, Contains-push, Path, same_or_other, is_down-start, stands-first, metadata_now, StandsForSlot, StandsForLabel}
+use Rattle.wtf_core.proofs.Common.{option_map, root_alone, ValueBytes, metadata_at, BesideView, TablesView, TablesBytes, TablesStand, some_of_none, bytes_alone}
+use Rattle.wtf_core.proofs.Common.{get-empty, Contains, Settings, no_names, of_client, empty_scan, is_pinned, ScansStand, StandsFor, live_cases, [], true≢false}
+use Rattle.wtf_core.proofs.Common.{nat_cmp, is_down, Key, IsFirst, Clients, unsaved, no_jobs, of_label, CoreView, RunView, mark_of, HasKinds, AreSound, none_in}
+use Rattle.wtf_core.proofs.Common.{start, Slice, Dir, Inode, Region, Links, Folder, Value, GcView, new_gc, LieIn, no_job, nat_lt, false, Option, IsTrue, ⊎_elim}
+use Rattle.wtf_core.proofs.Common.{Tree, root, Told, Map, ◌≡◌, ◌≤◌, ℕ, ◌+◌, ◌*◌, cond, Bool, List, true, None, Some, sym, ap, subst, ◌∙◌, arith}
 use Rattle.wtf_overlay.specs.Origin.{Place}
-use Rattle.wtf_values.specs.declared.key.Key.{Key}
-use Rattle.wtf_values.specs.declared.key.Key.TheVariants.{Path, Dir, Inode, Region, Links}
-use Rattle.wtf_values.specs.declared.value.Node.TheVariants.{Folder}
-use Rattle.wtf_values.specs.declared.value.Value.TheVariants as value
-use Rattle.wtf_values.specs.Names.{no_names}
-use Rattle.wtf_model.specs.Tree.{Tree, root, root_alone}
-use Rattle.wtf_model.proofs.TreeLaws.{same_or_other}
-use Rattle.wtf_model.proofs.StepLaws.{is_down-start}
-use Rattle.wtf_meta.specs.Contents.{Told}
-use Rattle.wtf_meta.specs.Bytes.{ValueBytes}
-use Rattle.wtf_meta.specs.Maps.{Map, metadata_at}
-use Rattle.wtf_meta.specs.Trees.{IsFirst}
-use Rattle.wtf_meta.proofs.Starting.{stands-first}
-use Rattle.wtf_clients.specs.Views.{Clients, BesideView, unsaved, no_jobs, TablesView, of_client, of_label, metadata_now}
-use Rattle.wtf_core.specs.Views.{CoreView}
-use Rattle.wtf_clients.specs.Named.{TablesBytes}
-use Rattle.wtf_gc.specs.Views.{RunView, GcView, mark_of, empty_scan, new_gc}
-use Rattle.wtf_kv.specs.Stores.{is_pinned}
-use Rattle.wtf_clients.specs.Safe.{LieIn}
-use Rattle.wtf_clients.specs.Standing.{HasKinds, StandsForSlot, StandsForLabel, TablesStand, ScansStand}
-use Rattle.wtf_core.specs.Standing.{StandsFor}
-use Rattle.wtf_clients.specs.Sounds.{AreSound}
-use Rattle.wtf_clients.proofs.Images.{none_in, some_of_none}
-use Rattle.wtf_clients.proofs.JobPins.{no_job}
-use Rattle.wtf_clients.proofs.Lives.{live_cases}
-use Rattle.wtf_clients.proofs.Naming.{bytes_alone}
 use Rattle.wtf_core.proofs.Aged.{kinds_of}
 
 -- nothing is in an empty list
@@ -65,8 +33,7 @@ lie_first gc length is =
 -- nothing is open, no scan has begun, and the number alone can be read
 pub scans_first : (settings : Settings) (number : ℕ) (t : Tree) (tables : TablesView) → tables.beside.gc ≡ new_gc → tables.beside.scan_tx ≡ 0
     → ((c : ℕ) → of_client tables.clients c ≡ None) → ((j : ℕ) → of_label tables.beside.jobs j ≡ None)
-    → ((n : ℕ) → IsTrue (is_pinned tables.kv n) → n ≡ tables.kv.number) → HasKinds (metadata_now tables.kv)
-    → ScansStand tables (start settings number t)
+    → ((n : ℕ) → IsTrue (is_pinned tables.kv n) → n ≡ tables.kv.number) → HasKinds (metadata_now tables.kv) → ScansStand tables (start settings number t)
 scans_first settings number t tables gc scan_tx clients jobs alone kinds = record {
   stamps = record {
     listed = λ s there. absurd (nothing_in s there);
@@ -105,19 +72,18 @@ stands_first told settings tables core is_settings is_tables number clients save
       (scans_first settings 0 root_alone tables (ap (λ (b : BesideView). b.gc) saved) (ap (λ (b : BesideView). b.scan_tx) saved)
       (λ c. none_of tables.clients c clients) (λ j. idle_of tables.beside j (ap (λ (b : BesideView). b.jobs) saved))
       (λ n pinned. let le = sound.upto n pinned in omega (arith, le, number))
-      (kinds_of core.settings.region told 0 0 (metadata_now tables.kv) root_alone
-      (stands-first core.settings.region told 0 0 (metadata_now tables.kv) first)));
+      (kinds_of core.settings.region told 0 0 (metadata_now tables.kv) root_alone (stands-first core.settings.region told 0 0 (metadata_now tables.kv) first)));
 }
 
 -- it names no byte
 module _ (P : List Place → Bool) (Q : Slice → Bool) (w : Map) (first : IsFirst w) where
   value_first : (q : Key) → ValueBytes P Q (w q)
   value_first (Path q) = ⊎_elim
-      (λ same. subst (λ v. ValueBytes P Q v) (sym (subst (λ x. w (Path x) ≡ Some (value.Node Folder)) (sym same) first.top)) tt)
+      (λ same. subst (λ v. ValueBytes P Q v) (sym (subst (λ x. w (Path x) ≡ Some (Value.Node Folder)) (sym same) first.top)) tt)
       (λ other. subst (λ v. ValueBytes P Q v) (sym (first.paths q other)) tt)
       (same_or_other q root)
   value_first (Dir q) = ⊎_elim
-      (λ same. subst (λ v. ValueBytes P Q v) (sym (subst (λ x. w (Dir x) ≡ Some (value.Names no_names)) (sym same) first.names)) tt)
+      (λ same. subst (λ v. ValueBytes P Q v) (sym (subst (λ x. w (Dir x) ≡ Some (Value.Names no_names)) (sym same) first.names)) tt)
       (λ other. subst (λ v. ValueBytes P Q v) (sym (first.dirs q other)) tt)
       (same_or_other q root)
   value_first (Inode i) = subst (λ v. ValueBytes P Q v) (sym (first.inodes i)) tt
@@ -125,8 +91,7 @@ module _ (P : List Place → Bool) (Q : Slice → Bool) (w : Map) (first : IsFir
   value_first (Links i) = subst (λ v. ValueBytes P Q v) (sym (first.counts i)) tt
 
 pub bytes_first : (P : List Place → Bool) (Q : Slice → Bool) (tables : TablesView) → AreSound tables → tables.kv.number ≡ 0 → tables.clients ≡ []
-    → tables.beside ≡ unsaved → IsFirst
-    (metadata_now tables.kv) → TablesBytes P Q tables
+    → tables.beside ≡ unsaved → IsFirst (metadata_now tables.kv) → TablesBytes P Q tables
 bytes_first P Q tables sound number clients beside first =
     bytes_alone P Q tables (λ c. none_of tables.clients c clients)
     (λ j. idle_of tables.beside j (ap (λ (b : BesideView). b.jobs) beside)) (λ n pinned. let le = sound.upto n pinned in omega (arith, le, number))

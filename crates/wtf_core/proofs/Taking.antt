@@ -1,40 +1,10 @@
 -- What a keeper holds goes on being an image that a run can begin with, and after a save it is that of the core.
-use Rattle.std.proofs.Common.{◌≡◌, ◌≤◌, ◌^◌, ℕ, true, List, [], ◌∷◌, Some, sym, ap, ◌∙◌, subst, inl, inr, ⊎_elim, arith}
-use Rattle.std.proofs.lemmas.List.{append-nil}
-use Rattle.wtf_base.specs.declared.settings.Settings.{Settings}
-use Rattle.wtf_base.specs.Limits.{AreSettings}
-use Rattle.wtf_dev.specs.Keep.{KeeperView}
-use Rattle.wtf_dev.specs.Store.{StoreKind}
-use Rattle.wtf_replica.specs.Inside.{size_in}
-use Rattle.wtf_replica.specs.Spans.{Span}
-use Rattle.wtf_model.specs.declared.answer.Answer.{Answer}
-use Rattle.wtf_model.specs.declared.answer.Answer.TheVariants as answer
-use Rattle.wtf_model.specs.declared.event.Event.{Event}
-use Rattle.wtf_model.specs.declared.event.Event.TheVariants as event
-use Rattle.wtf_model.specs.Machines.{Machine}
-use Rattle.wtf_meta.specs.Bytes.{MapBytes, any_slice}
-use Rattle.wtf_meta.specs.Contents.{Told}
-use Rattle.wtf_region.specs.Inside.{is_inside}
-use Rattle.wtf_image.specs.Images.{HasText}
-use Rattle.wtf_image.specs.Kept.{IsKept}
-use Rattle.wtf_image.specs.Rows.{ImageRows}
-use Rattle.wtf_image.specs.Rules.{are_inside}
-use Rattle.wtf_image.specs.Texts.{image_text}
-use Rattle.wtf_image.proofs.Forms.{one_image}
-use Rattle.wtf_image.proofs.SaveMap.{is_kept}
-use Rattle.wtf_image.proofs.StandsLaws.{stands_savable}
-use Rattle.wtf_clients.specs.Views.{TablesView, metadata_now}
-use Rattle.wtf_clients.specs.Sounds.{AreSound}
-use Rattle.wtf_clients.specs.Standing.{TablesStand}
-use Rattle.wtf_clients.specs.Saves.{SaveTurn}
-use Rattle.wtf_clients.specs.Keeping.{KeeperSpan, Hands, KeeperFailed, KeeperTurn}
-use Rattle.wtf_core.specs.Views.{CoreView}
-use Rattle.wtf_core.specs.Turns.{LineTurn}
-use Rattle.wtf_core.specs.Pictured.{IsImageFor, IsImageWith, IsTakenFor, HoldsTaken, HoldsWith}
-use Rattle.wtf_core.specs.Promises.{scene, CoreLeaves}
-use Rattle.wtf_core.proofs.Moves.{Rises}
-use Rattle.wtf_core.proofs.Holding.{KeeperLaws, handed_one}
-use Rattle.wtf_core.proofs.Pointing.{rows_inside, taken_on}
+use Rattle.wtf_core.proofs.Common.{append-nil, Settings, AreSettings, KeeperView, StoreKind, size_in, Span, Answer, Event, Machine, MapBytes, any_slice, Told}
+use Rattle.wtf_core.proofs.Common.{is_inside, HasText, IsKept, ImageRows, are_inside, image_text, one_image, is_kept, stands_savable, TablesView, metadata_now}
+use Rattle.wtf_core.proofs.Common.{AreSound, TablesStand, SaveTurn, KeeperSpan, Hands, KeeperFailed, KeeperTurn, CoreView, LineTurn, IsImageFor, IsImageWith}
+use Rattle.wtf_core.proofs.Common.{IsTakenFor, HoldsTaken, HoldsWith, scene, CoreLeaves, ◌≡◌, ◌≤◌, ◌^◌, ℕ, true, List, [], ◌∷◌, Some, sym, ap, ◌∙◌, subst, inl}
+use Rattle.wtf_core.proofs.Common.{inr, ⊎_elim, arith}
+use Rattle.wtf_core.proofs.{Moves.Rises, Holding.KeeperLaws, Holding.handed_one, Pointing.rows_inside, Pointing.taken_on}
 
 -- bytes are one image at most
 pub same_rows : (x y : ImageRows) (bytes : List ℕ) → HasText x bytes → HasText y bytes → x ≡ y
@@ -68,11 +38,10 @@ image_with size settings n next n' next' bytes more after h = record {
 }
 
 module _ {S : Type 0} (kind : StoreKind S) (t : Span S) (grows : (k f : ℕ) → size_in kind t.before k f ≤ size_in kind t.after k f) (k : KeeperSpan)
-    (keeper : KeeperLaws k) (settings : Settings) (old new : TablesView)
-    (told : Told) (m : Machine) (limits : AreSettings settings.servers settings.replicas settings.region) (begun_one : AreSound old)
-    (few : old.kv.number ≤ 2 ^ 62) (next : old.next_tx ≤ 2 ^ 62)
-    (st : TablesStand settings.region told old m) (inside : MapBytes (is_inside kind t.before settings) any_slice (metadata_now old.kv))
-    (rises : Rises old new) where
+    (keeper : KeeperLaws k) (settings : Settings) (old new : TablesView) (told : Told) (m : Machine)
+    (limits : AreSettings settings.servers settings.replicas settings.region) (begun_one : AreSound old) (few : old.kv.number ≤ 2 ^ 62)
+    (next : old.next_tx ≤ 2 ^ 62) (st : TablesStand settings.region told old m)
+    (inside : MapBytes (is_inside kind t.before settings) any_slice (metadata_now old.kv)) (rises : Rises old new) where
   abbrev Before : Type 0
   Before = HoldsTaken k.before (size_in kind t.before) settings old.kv.number old.next_tx
 
@@ -84,8 +53,7 @@ module _ {S : Type 0} (kind : StoreKind S) (t : Span S) (grows : (k f : ℕ) →
   handed_image hands =
       let save = hands.image in
       let kept : IsKept old.kv settings old.next_tx hands.bytes =
-      is_kept old.kv settings old.next_tx hands.bytes save limits few next
-      (stands_savable settings.region told old.next_tx 0 (metadata_now old.kv) m.now
+      is_kept old.kv settings old.next_tx hands.bytes save limits few next (stands_savable settings.region told old.next_tx 0 (metadata_now old.kv) m.now
       (st.later old.next_tx (omega arith)) old.next_tx begun_one.begun st.before) in
       let same : save.rows ≡ kept.rows = same_rows save.rows kept.rows hands.bytes save.text kept.text in
       let pointers : are_inside (size_in kind t.before) save.rows ≡ true =
@@ -128,14 +96,14 @@ module _ {S : Type 0} (kind : StoreKind S) (t : Span S) (grows : (k f : ℕ) →
       (failed.hands.bytes, holds ∙ ap Some (sym same), handed_taken failed.hands))
       ((keeper.kept (failed.hands.bytes ∷ []) failed.hands.handed).bytes bytes held)
 
-  save_taken : (Up : Type 0) (a : Answer) → SaveTurn Up old new a → KeeperTurn kind t k settings old new event.Save a → k.before.tells ≡ true → Before → After
-  save_taken Up (answer.Saved n) turn did tells held = (did.hands.bytes, did.held tells, handed_taken did.hands)
-  save_taken Up answer.FaultSave turn (inl did) tells held = untouched_taken did.untouched held
-  save_taken Up answer.FaultSave turn (inr did) tells held = failed_taken did held
+  save_taken : (Up : Type 0) (a : Answer) → SaveTurn Up old new a → KeeperTurn kind t k settings old new Event.Save a → k.before.tells ≡ true → Before → After
+  save_taken Up (Answer.Saved n) turn did tells held = (did.hands.bytes, did.held tells, handed_taken did.hands)
+  save_taken Up Answer.FaultSave turn (inl did) tells held = untouched_taken did.untouched held
+  save_taken Up Answer.FaultSave turn (inr did) tells held = failed_taken did held
   save_taken Up a turn did tells held = absurd turn
 
   -- after `saved` the keeper holds the image of the core
-  pub saved_now : (n : ℕ) → KeeperTurn kind t k settings old new event.Save (answer.Saved n) → k.before.tells ≡ true
+  pub saved_now : (n : ℕ) → KeeperTurn kind t k settings old new Event.Save (Answer.Saved n) → k.before.tells ≡ true
       → HoldsWith k.after (size_in kind t.after) settings old.kv.number old.next_tx
   saved_now n did tells = (did.hands.bytes, did.held tells, handed_image did.hands)
 
@@ -147,11 +115,10 @@ numbers_on v size settings n next n' next' same_n same_next (bytes, held, is) =
 
 -- each line
 module _ {S : Type 0} (kind : StoreKind S) (t : Span S) (grows : (k f : ℕ) → size_in kind t.before k f ≤ size_in kind t.after k f) (k : KeeperSpan)
-    (keeper : KeeperLaws k) (told : Told) (old new : CoreView)
-    (m : Machine) (limits : AreSettings old.settings.servers old.settings.replicas old.settings.region) (sound : AreSound old.tables)
-    (few : old.tables.kv.number ≤ 2 ^ 62) (next : old.tables.next_tx ≤ 2 ^ 62)
-    (st : TablesStand old.settings.region told old.tables m) (inside : MapBytes (is_inside kind t.before old.settings) any_slice (metadata_now old.tables.kv))
-    (rises : Rises old.tables new.tables) (a : Answer) where
+    (keeper : KeeperLaws k) (told : Told) (old new : CoreView) (m : Machine)
+    (limits : AreSettings old.settings.servers old.settings.replicas old.settings.region) (sound : AreSound old.tables) (few : old.tables.kv.number ≤ 2 ^ 62)
+    (next : old.tables.next_tx ≤ 2 ^ 62) (st : TablesStand old.settings.region told old.tables m)
+    (inside : MapBytes (is_inside kind t.before old.settings) any_slice (metadata_now old.tables.kv)) (rises : Rises old.tables new.tables) (a : Answer) where
   other_taken : k.untouched → HoldsTaken k.before (size_in kind t.before) old.settings old.tables.kv.number old.tables.next_tx
       → HoldsTaken k.after (size_in kind t.after) old.settings new.tables.kv.number new.tables.next_tx
   other_taken untouched held = untouched_taken kind t grows k keeper old.settings old.tables new.tables told m limits sound few next st inside rises
@@ -160,17 +127,17 @@ module _ {S : Type 0} (kind : StoreKind S) (t : Span S) (grows : (k f : ℕ) →
   pub line_taken : (e : Event) → LineTurn kind t old new e a → KeeperTurn kind t k old.settings old.tables new.tables e a → k.before.tells ≡ true
       → HoldsTaken k.before (size_in kind t.before) old.settings old.tables.kv.number old.tables.next_tx
       → HoldsTaken k.after (size_in kind t.after) old.settings new.tables.kv.number new.tables.next_tx
-  line_taken event.Save turn did tells held = save_taken kind t grows k keeper old.settings old.tables new.tables told m limits sound few next st inside rises
+  line_taken Event.Save turn did tells held = save_taken kind t grows k keeper old.settings old.tables new.tables told m limits sound few next st inside rises
       _ a turn.0 did tells held
   line_taken e turn did tells held = other_taken did held
 
-  save_leaves : (b : Answer) → KeeperTurn kind t k old.settings old.tables new.tables event.Save b → k.before.tells ≡ true
-      → CoreLeaves kind (scene t.before k.before old) (scene t.after k.after new) event.Save b
-  save_leaves (answer.Saved n) did tells = saved_now kind t grows k keeper old.settings old.tables new.tables told m limits sound few next st inside rises n
+  save_leaves : (b : Answer) → KeeperTurn kind t k old.settings old.tables new.tables Event.Save b → k.before.tells ≡ true
+      → CoreLeaves kind (scene t.before k.before old) (scene t.after k.after new) Event.Save b
+  save_leaves (Answer.Saved n) did tells = saved_now kind t grows k keeper old.settings old.tables new.tables told m limits sound few next st inside rises n
       did tells
   save_leaves b did tells = tt
 
   pub line_leaves : (e : Event) (b : Answer) → KeeperTurn kind t k old.settings old.tables new.tables e b → k.before.tells ≡ true
       → CoreLeaves kind (scene t.before k.before old) (scene t.after k.after new) e b
-  line_leaves event.Save b did tells = save_leaves b did tells
+  line_leaves Event.Save b did tells = save_leaves b did tells
   line_leaves e b did tells = tt

@@ -1,81 +1,36 @@
 -- Lines over stores that tell their content.
-use Rattle.std.proofs.Common.{◌≡◌, ◌<◌, ◌≤◌, ◌+◌, ◌*◌, ◌&&◌, ℕ, zero, suc, nat_lt, cond, not, Bool, true, false, List, [], ◌∷◌, length, get_or, take, Option}
-use Rattle.std.proofs.Common.{None, Some, MatchOption, refl, sym, ap, ◌∙◌, subst, true≢false, arith}
-use Rattle.std.specs.Prelude.{slice_get, slice_index_or}
-use Rattle.std.specs.List.{All}
-use Rattle.std.proofs.lemmas.Bool.{and_from, le-ltb}
-use Rattle.std.proofs.lemmas.List.Elements.{All-nil, All-head, All-tail}
-use Rattle.std.proofs.lemmas.Option.{slice_get-get_or, slice_get_within}
-use Rattle.wtf_base.proofs.Elements.{element}
-use Rattle.wtf_base.specs.declared.settings.Settings.{Settings}
-use Rattle.wtf_base.specs.declared.slice.Slice.{Slice}
-use Rattle.wtf_dev.specs.Each.{EachFollows}
-use Rattle.wtf_dev.specs.Store.{StoreKind, KindLaws}
-use Rattle.wtf_dev.specs.Sums.{TellsAll}
+use Rattle.wtf_core.proofs.Common.{slice_get, slice_index_or, All, and_from, le-ltb, All-nil, All-head, All-tail, slice_get-get_or, slice_get_within, element}
+use Rattle.wtf_core.proofs.Common.{Settings, Slice, EachFollows, StoreKind, KindLaws, TellsAll, All-meaning, RegionValue, Spill, Value, told_by, byte_at}
+use Rattle.wtf_core.proofs.Common.{shown_byte, Span, span, byte_at-within, byte_at-kept, told_inside, Answer, Event, InTx, NoTx, extents_cover, GcView}
+use Rattle.wtf_core.proofs.Common.{is_garbage, new_gc, off, NamesNone, is_below, last_scan, OwnBytes, LieIn, IsSafe, Went, are_apart, Tree, BaseBytes}
+use Rattle.wtf_core.proofs.Common.{MaybeBytes, ValueBytes, any_slice, Told, is_told, TellsOn, is_told-later, told_byte, Remembered, CacheTrue, is_place_inside}
+use Rattle.wtf_core.proofs.Common.{is_inside, place_to, inside_stays, lists_have, PutTurn, DropTurn, any_byte, no_slice, has_copies, SaveTurn, NamesTables}
+use Rattle.wtf_core.proofs.Common.{IsPlain, AreSound, IsTidied, TellsTables, HoldsOfAdded, ServesTold, Refuses, Begins, TryTurn, Drops, TablesView, BesideView}
+use Rattle.wtf_core.proofs.Common.{of_client, of_label, metadata_now, now_bytes, bytes_alone, save_names, tables_weaker, tables_later, begin_went, attempt_went}
+use Rattle.wtf_core.proofs.Common.{abort_went, put_went, drop_went, save_went, IsCoreOf, CoreBytes, IsImageOfTree, IsBareImage, TellsCore, IsWide, IsWithin}
+use Rattle.wtf_core.proofs.Common.{IsToldLine, stores_of, CoreView, ◌≡◌, ◌<◌, ◌≤◌, ◌+◌, ◌*◌, ◌&&◌, ℕ, zero, suc, nat_lt, cond, not, Bool, true, false, List, []}
+use Rattle.wtf_core.proofs.Common.{◌∷◌, length, get_or, take, Option, None, Some, MatchOption, refl, sym, ap, ◌∙◌, subst, true≢false, arith}
 use Rattle.wtf_overlay.specs.Origin.{Place}
-use Rattle.wtf_overlay.proofs.Meanings.{All-meaning}
-use Rattle.wtf_values.specs.declared.region.RegionValue.{RegionValue}
-use Rattle.wtf_values.specs.declared.region.Spill.{Spill}
-use Rattle.wtf_values.specs.declared.value.Value.{Value}
-use Rattle.wtf_values.specs.declared.value.Value.TheVariants as value
-use Rattle.wtf_replica.specs.Bytes.{told_by, byte_at, shown_byte}
-use Rattle.wtf_replica.specs.Spans.{Span, span}
-use Rattle.wtf_replica.proofs.Bytes.{byte_at-within, byte_at-kept, told_inside}
 use Rattle.wtf_image.specs.Rules.{size_in}
-use Rattle.wtf_model.specs.declared.answer.Answer.{Answer}
-use Rattle.wtf_model.specs.declared.answer.Answer.TheVariants as answer
-use Rattle.wtf_model.specs.declared.event.Event.{Event}
-use Rattle.wtf_model.specs.declared.answer.Word.TheVariants.{InTx, NoTx}
-use Rattle.wtf_gc.specs.Extents.{extents_cover}
-use Rattle.wtf_gc.specs.Views.{GcView, is_garbage, new_gc}
-use Rattle.wtf_clients.specs.Safe.{off, NamesNone, is_below, last_scan, OwnBytes, LieIn, IsSafe, Went}
-use Rattle.wtf_region.specs.Apart.{are_apart}
-use Rattle.wtf_model.specs.Tree.{Tree}
-use Rattle.wtf_meta.specs.Bytes.{BaseBytes, MaybeBytes, ValueBytes, any_slice}
-use Rattle.wtf_meta.specs.Contents.{Told, is_told}
-use Rattle.wtf_meta.proofs.Telling.{TellsOn, is_told-later, told_byte}
-use Rattle.wtf_region.specs.Cached.{Remembered, CacheTrue}
-use Rattle.wtf_region.specs.Inside.{is_place_inside, is_inside}
-use Rattle.wtf_region.proofs.InsideLaws.{place_to, inside_stays}
-use Rattle.wtf_replay.specs.Insides.{lists_have}
-use Rattle.wtf_clients.specs.JobTurns.{PutTurn, DropTurn}
-use Rattle.wtf_clients.specs.Named.{any_byte, no_slice, has_copies}
-use Rattle.wtf_clients.specs.Saves.{SaveTurn}
-use Rattle.wtf_clients.specs.Serves.{NamesTables, IsPlain}
-use Rattle.wtf_clients.specs.Sounds.{AreSound, IsTidied}
-use Rattle.wtf_clients.specs.Telling.{ListedBytes, TellsTables, HoldsOfAdded, ServesTold}
-use Rattle.wtf_clients.specs.Turns.{Refuses, Begins, TryTurn, Drops}
-use Rattle.wtf_clients.specs.Views.{TablesView, BesideView, of_client, of_label, metadata_now}
-use Rattle.wtf_clients.proofs.Lives.{now_bytes}
-use Rattle.wtf_clients.proofs.Naming.{bytes_alone}
-use Rattle.wtf_clients.proofs.SaveServing.{save_names}
-use Rattle.wtf_clients.proofs.ToldLaws.{tables_weaker, tables_later}
-use Rattle.wtf_clients.proofs.Wents.{begin_went, attempt_went, abort_went, put_went, drop_went, save_went}
-use Rattle.wtf_core.specs.Loading.{IsCoreOf}
-use Rattle.wtf_core.specs.Named.{CoreBytes}
-use Rattle.wtf_core.specs.Pictured.{IsImageOfTree, IsBareImage}
-use Rattle.wtf_core.specs.Telling.{TellsCore, IsWide, IsWithin, IsToldLine, stores_of}
-use Rattle.wtf_core.proofs.Quieted.{tidied_safe, tidied_images, tidied_idle, tidied_stage, tidied_kept, tidied_collected}
-use Rattle.wtf_core.specs.Views.{CoreView}
-use Rattle.wtf_core.proofs.Answering.{put_plain, drop_plain}
-use Rattle.wtf_core.proofs.Naming.{put_names, drop_names, tidied_bytes}
-use Rattle.wtf_core.proofs.Restored.{pinned_alone, stands_now, inside_loaded, bare_loaded}
-use Rattle.wtf_core.proofs.Started.{nothing_in, none_of, idle_of}
+use Rattle.wtf_clients.specs.Telling.{ListedBytes}
+use Rattle.wtf_core.proofs.{Quieted.tidied_safe, Quieted.tidied_idle, Quieted.tidied_kept, Answering.put_plain, Answering.drop_plain, Restored.bare_loaded}
+use Rattle.wtf_core.proofs.{Quieted.tidied_images, Quieted.tidied_stage, Quieted.tidied_collected, Restored.pinned_alone, Restored.inside_loaded}
+use Rattle.wtf_core.proofs.{Naming.put_names, Naming.drop_names, Naming.tidied_bytes, Restored.stands_now, Started.nothing_in, Started.none_of, Started.idle_of}
 
 -- an answer that is not that of a read that failed
 abbrev pub IsUnfailed : Answer → Type 0
-IsUnfailed (answer.FaultRead k) = ⊥
-IsUnfailed (answer.Damaged k) = ⊥
+IsUnfailed (Answer.FaultRead k) = ⊥
+IsUnfailed (Answer.Damaged k) = ⊥
 IsUnfailed a = Unit {0}
 
 pub plain_unfailed : (a : Answer) → IsPlain a → IsUnfailed a
-plain_unfailed (answer.FaultRead k) h = h
-plain_unfailed (answer.Damaged k) h = h
+plain_unfailed (Answer.FaultRead k) h = h
+plain_unfailed (Answer.Damaged k) h = h
 plain_unfailed a h = tt
 
 save_unfailed : (Up : Type 0) (old new : TablesView) (a : Answer) → SaveTurn Up old new a → IsUnfailed a
-save_unfailed Up old new (answer.Saved n) turn = tt
-save_unfailed Up old new answer.FaultSave turn = tt
+save_unfailed Up old new (Answer.Saved n) turn = tt
+save_unfailed Up old new Answer.FaultSave turn = tt
 save_unfailed Up old new a turn = absurd turn
 
 -- what tables name where they name nothing new goes on passing a test that more pass, also by the lists of bases
@@ -325,11 +280,11 @@ base_plain P Q (Some s) none = absurd (true≢false (sym none.1))
 
 value_plain : (P : List Place → Bool) (Q : Slice → Bool) (v : Option Value) → ValueBytes P any_slice v → ValueBytes any_byte no_slice v → ValueBytes P Q v
 value_plain P Q None h none = tt
-value_plain P Q (Some (value.Node n)) h none = tt
-value_plain P Q (Some (value.Names ns)) h none = tt
-value_plain P Q (Some (value.Count n)) h none = tt
-value_plain P Q (Some (value.Last r)) h none = tt
-value_plain P Q (Some (value.Region v)) h none = record { base = base_plain P Q v.base none.base; entries = h.entries }
+value_plain P Q (Some (Value.Node n)) h none = tt
+value_plain P Q (Some (Value.Names ns)) h none = tt
+value_plain P Q (Some (Value.Count n)) h none = tt
+value_plain P Q (Some (Value.Last r)) h none = tt
+value_plain P Q (Some (Value.Region v)) h none = record { base = base_plain P Q v.base none.base; entries = h.entries }
 
 pub within_loaded : {S : Type 0} (kind : StoreKind S) (shelf : List S) (bytes : List ℕ) (core : CoreView) → AreSound core.tables
     → IsCoreOf (size_in kind shelf) bytes core → IsBareImage bytes → IsWithin kind shelf core

@@ -1,69 +1,18 @@
 -- What each line does over stores that tell all that a core names.
-use Rattle.std.proofs.Common.{◌≡◌, ◌≢◌, ◌<◌, ◌≤◌, ◌+◌, ◌&&◌, ℕ, nat_eq, nat_le, nat_lt, Bool, true, false, List, [], ◌∷◌, length}
-use Rattle.std.proofs.Common.{IsTrue, refl, sym, ap, ◌∙◌, subst, ⊎_elim, arith}
-use Rattle.std.specs.List.{All}
-use Rattle.std.proofs.lemmas.Bool.{and_parts, or_cases, eqb-true, ltb-true, true≢false}
-use Rattle.std.proofs.lemmas.List.Elements.{All-head, All-tail, All-weaker}
-use Rattle.wtf_base.specs.declared.settings.Settings.{Settings}
-use Rattle.wtf_dev.specs.Each.{EachFollows}
-use Rattle.wtf_dev.specs.Store.{Range, StoreKind, KindLaws}
-use Rattle.wtf_dev.proofs.Sums.{tells_all-kept}
+use Rattle.wtf_core.proofs.Common.{All, EachFollows, metadata_at, ListedBytes, TablesBytes, CollectTurn, Stands-later, tables_later, ArePunchedBy, KeepsPunched}
+use Rattle.wtf_core.proofs.Common.{and_parts, Range, sizes_grow, start_maps, does_reads, kept_names, start_safe, later_safe, KeepsLists, IsToldLine, ServesTurn}
+use Rattle.wtf_core.proofs.Common.{or_cases, All-weaker, NamesTables, TellsTables, kept_pinned, pinned_live, start_reads, pruned_live, KeepsImages, IsByDevices}
+use Rattle.wtf_core.proofs.Common.{eqb-true, ltb-true, All-head, All-tail, Settings, KindLaws, ScanBusy, Dev, ScanTurn, DoesTurn, AreSound, HasKinds, ToldPiece}
+use Rattle.wtf_core.proofs.Common.{true≢false, byte_at-kept, inside_stays, HoldsOfAdded, listed_where, collect_safe, collect_wide, tells_punched, GoesOnQuietly}
+use Rattle.wtf_core.proofs.Common.{StoreKind, Map, are_apart, is_inside, NamesNone, PieceTurn, AreWithin, ReadsTold, added_off, out_apart, went_safe, TellsCore}
+use Rattle.wtf_core.proofs.Common.{tells_all-kept, is_told-later, collect_apart, collect_image, collect_tells, collect_within, collect_freed, garbage_unnamed}
+use Rattle.wtf_core.proofs.Common.{byte_at, size_in, is_live, Answer, Event, is_told, TellsOn, lies_in, told_in, between, AreWide, IsInside, LineTurn, CoreView}
+use Rattle.wtf_core.proofs.Common.{Span, lies_apart, Remembered, remembered, lists_have, has_copies, StartsTurn, PieceFails, ServesTold, BesideView, TablesView}
+use Rattle.wtf_core.proofs.Common.{NoScan, Stands, stores, LiesOn, lie_in, GcView, LieIn, IsSafe, Freed, nat_eq, nat_le, nat_lt, false, length, IsTrue, ⊎_elim}
+use Rattle.wtf_core.proofs.Common.{Told, off, ◌≡◌, ◌≢◌, ◌<◌, ◌≤◌, ◌+◌, ◌&&◌, ℕ, Bool, true, List, [], ◌∷◌, refl, sym, ap, ◌∙◌, subst, arith}
 use Rattle.wtf_overlay.specs.Origin.{Place}
-use Rattle.wtf_replica.specs.Bytes.{byte_at}
-use Rattle.wtf_replica.specs.Inside.{size_in}
-use Rattle.wtf_replica.specs.Spans.{Span}
-use Rattle.wtf_replica.proofs.Bytes.{byte_at-kept}
-use Rattle.wtf_kv.specs.Stores.{is_live}
-use Rattle.wtf_model.specs.declared.answer.Answer.{Answer}
-use Rattle.wtf_model.specs.declared.answer.Answer.TheVariants as answer
-use Rattle.wtf_model.specs.declared.answer.Word.TheVariants.{ScanBusy, NoScan}
-use Rattle.wtf_model.specs.declared.event.Event.{Event}
-use Rattle.wtf_model.specs.declared.event.Event.TheVariants as event
-use Rattle.wtf_meta.specs.Contents.{Told, is_told}
-use Rattle.wtf_meta.specs.Maps.{Map, metadata_at}
-use Rattle.wtf_meta.specs.Trees.{Stands}
-use Rattle.wtf_meta.proofs.Telling.{TellsOn, is_told-later}
-use Rattle.wtf_region.specs.declared.dev.Dev.{Dev}
-use Rattle.wtf_region.specs.Apart.{lies_in, lies_apart, are_apart}
-use Rattle.wtf_region.specs.Cached.{Remembered}
-use Rattle.wtf_region.specs.Devs.{stores, remembered, told_in, between}
-use Rattle.wtf_region.specs.Inside.{is_inside}
-use Rattle.wtf_region.proofs.InsideLaws.{inside_stays}
-use Rattle.wtf_replay.specs.Insides.{lists_have}
-use Rattle.wtf_gc.specs.Frees.{LiesOn, lie_in}
-use Rattle.wtf_gc.specs.Views.{GcView}
-use Rattle.wtf_clients.specs.Named.{ListedBytes, TablesBytes, has_copies}
-use Rattle.wtf_clients.specs.Safe.{off, NamesNone, LieIn, IsSafe}
-use Rattle.wtf_clients.specs.ScanTurns.{ScanTurn, StartsTurn, PieceTurn, PieceFails, DoesTurn, CollectTurn}
-use Rattle.wtf_clients.specs.Serves.{NamesTables}
-use Rattle.wtf_clients.specs.Sounds.{AreSound}
-use Rattle.wtf_clients.specs.Standing.{HasKinds}
-use Rattle.wtf_clients.specs.Telling.{TellsTables, AreWide, AreWithin, HoldsOfAdded, ServesTold, ReadsTold}
-use Rattle.wtf_clients.specs.Views.{BesideView, TablesView}
-use Rattle.wtf_clients.proofs.Added.{added_off, sizes_grow}
-use Rattle.wtf_clients.proofs.OffStanding.{listed_where}
-use Rattle.wtf_clients.proofs.Collected.{collect_apart, collect_image, collect_safe, collect_tells, collect_wide, collect_within}
-use Rattle.wtf_clients.proofs.Freeing.{Freed, collect_freed}
-use Rattle.wtf_clients.proofs.Images.{kept_pinned}
-use Rattle.wtf_clients.proofs.Later.{Stands-later}
-use Rattle.wtf_clients.proofs.Lives.{pinned_live}
-use Rattle.wtf_clients.proofs.Punched.{out_apart, tells_punched}
-use Rattle.wtf_clients.proofs.SafeLaws.{went_safe, garbage_unnamed}
-use Rattle.wtf_clients.proofs.ScanFrames.{start_reads, start_maps, does_reads}
-use Rattle.wtf_clients.proofs.ScanLaws.{kept_names, start_safe}
-use Rattle.wtf_clients.proofs.Scanning.{later_safe, pruned_live}
-use Rattle.wtf_clients.proofs.ToldLaws.{tables_later}
-use Rattle.wtf_core.specs.Named.{IsInside}
-use Rattle.wtf_core.specs.Punched.{ArePunchedBy}
-use Rattle.wtf_core.specs.Remembering.{KeepsLists, KeepsPunched}
-use Rattle.wtf_core.specs.Telling.{TellsCore, IsToldLine, KeepsImages, GoesOnQuietly, ToldPiece, ServesTurn}
-use Rattle.wtf_core.specs.Turns.{IsByDevices, LineTurn}
-use Rattle.wtf_core.specs.Views.{CoreView}
-use Rattle.wtf_core.proofs.Moves.{line_moves}
-use Rattle.wtf_core.proofs.Quieted.{seen_pinned}
-use Rattle.wtf_core.proofs.Stamped.{IsOther}
-use Rattle.wtf_core.proofs.Answering.{tree_plain, server_plain}
-use Rattle.wtf_core.proofs.Telling.{IsUnfailed, plain_unfailed, listed_on}
+use Rattle.wtf_core.proofs.{Moves.line_moves, Quieted.seen_pinned, Stamped.IsOther, Answering.tree_plain, Answering.server_plain, Telling.IsUnfailed}
+use Rattle.wtf_core.proofs.{Telling.plain_unfailed, Telling.listed_on}
 
 -- what lies in ranges lies in their files
 ranges_low : (size : ℕ → ℕ → ℕ) (servers : ℕ) (ranges : List (ℕ × Range)) → All (LiesOn size servers) ranges → (p : Place) → lie_in ranges p ≡ true
@@ -112,10 +61,7 @@ module _ {S : Type 0} (kind : StoreKind S) (t : Span S) (old new : CoreView) (e 
   }
 
   unfailed_reads : IsUnfailed a → ReadsTold kind t old.settings old.tables a
-  unfailed_reads unfailed = record {
-    undamaged = λ within k is. subst IsUnfailed is unfailed;
-    unread = λ wide k is. absurd (subst IsUnfailed is unfailed);
-  }
+  unfailed_reads unfailed = record { undamaged = λ within k is. subst IsUnfailed is unfailed; unread = λ wide k is. absurd (subst IsUnfailed is unfailed) }
 
 -- ---- lines that punch nothing
 module _ {S : Type 0} {kind : StoreKind S} (laws : KindLaws kind) (t : Span S) (old new : CoreView) (sound : AreSound old.tables)
@@ -163,8 +109,7 @@ module _ {S : Type 0} {kind : StoreKind S} (laws : KindLaws kind) (t : Span S) (
   never_by carries X low h = carries (off X) refl (added_off kind t old.settings X low) h
 
   -- the images' maps stay
-  images_on : ((n : ℕ) → IsTrue (is_live old.tables.kv n) → metadata_at new.tables.kv n ≡ metadata_at old.tables.kv n)
-      → KeepsImages kind t old (under old new)
+  images_on : ((n : ℕ) → IsTrue (is_live old.tables.kv n) → metadata_at new.tables.kv n ≡ metadata_at old.tables.kv n) → KeepsImages kind t old (under old new)
   images_on maps n was is tx tree stands =
       subst (λ (w : Map). Stands size later tx 0 w tree) (sym (maps n (pinned_live old.tables.kv n (kept_pinned old.tables n sound was))))
       (Stands-later told later on size tx 0 (metadata_at old.tables.kv n) tree stands)
@@ -240,9 +185,9 @@ module _ {S : Type 0} {kind : StoreKind S} (laws : KindLaws kind) (t : Span S) (
 
     scan_told : ((n : ℕ) → IsTrue (is_live old.tables.kv n) → HasKinds (metadata_at old.tables.kv n)) → (b : Answer) → b ≡ a
         → ScanTurn kind t.before old.tables new.tables b → IsToldLine kind t old (under old new) e a
-    scan_told kinds (answer.Refused ScanBusy) is h = scan_by (same_starts h.0 (subst IsUnfailed is tt))
-    scan_told kinds (answer.Held who) is h = scan_by (same_starts h.0 (subst IsUnfailed is tt))
-    scan_told kinds answer.Scanning is h = scan_by (scan_starts kinds h (subst IsUnfailed is tt))
+    scan_told kinds (Answer.Refused ScanBusy) is h = scan_by (same_starts h.0 (subst IsUnfailed is tt))
+    scan_told kinds (Answer.Held who) is h = scan_by (same_starts h.0 (subst IsUnfailed is tt))
+    scan_told kinds Answer.Scanning is h = scan_by (scan_starts kinds h (subst IsUnfailed is tt))
     scan_told kinds b is h = absurd h
 
     -- ---- parts of a scan
@@ -259,9 +204,9 @@ module _ {S : Type 0} {kind : StoreKind S} (laws : KindLaws kind) (t : Span S) (
           (ap (λ (b : BesideView). b.jobs) p.beside)
 
       piece_names : (b : Answer) → PieceTurn kind before after old.tables new.tables n b → NamesTables old.tables new.tables
-      piece_names (answer.Refused NoScan) h = λ P Q hole was. subst (λ (tables : TablesView). TablesBytes P Q tables) (sym h.0) was
-      piece_names (answer.More left) h = does_names left h.1
-      piece_names answer.Done h = does_names 0 h
+      piece_names (Answer.Refused NoScan) h = λ P Q hole was. subst (λ (tables : TablesView). TablesBytes P Q tables) (sym h.0) was
+      piece_names (Answer.More left) h = does_names left h.1
+      piece_names Answer.Done h = does_names 0 h
       piece_names b h = fails_names b h
 
       piece_told : PieceTurn kind before after old.tables new.tables n a
@@ -277,8 +222,8 @@ module _ {S : Type 0} {kind : StoreKind S} (laws : KindLaws kind) (t : Span S) (
 -- its answer is no fault of a read
 collect_unfailed : {S : Type 0} (kind : StoreKind S) (before after : Dev S) (old new : TablesView) (k : ℕ) (a : Answer)
     → CollectTurn kind before after old new k a → IsUnfailed a
-collect_unfailed kind before after old new k (answer.FaultRead j) h = h
-collect_unfailed kind before after old new k (answer.Damaged j) h = h
+collect_unfailed kind before after old new k (Answer.FaultRead j) h = h
+collect_unfailed kind before after old new k (Answer.Damaged j) h = h
 collect_unfailed kind before after old new k a h = tt
 
 -- freeing names nothing
@@ -306,8 +251,7 @@ module _ {S : Type 0} {kind : StoreKind S} (laws : KindLaws kind) (old new : Cor
       let known : TellsTables kind (stores before) before.settings (remembered before) old.tables =
       subst (λ (l : Remembered). TellsTables kind (stores before) before.settings l old.tables) (sym was)
       (subst (λ (s : Settings). TellsTables kind (stores before) s old.lists old.tables) same tells.tables) in
-      told_by kind (between before after) old new e a
-      (subst (λ (l : Remembered). TellsTables kind (stores after) old.settings l new.tables) is
+      told_by kind (between before after) old new e a (subst (λ (l : Remembered). TellsTables kind (stores after) old.settings l new.tables) is
       (subst (λ (s : Settings). TellsTables kind (stores after) s (remembered after) new.tables) settings (collect_tells laws freed safe lie known)))
       (subst (λ (s : Settings). IsSafe s.region (byte_at kind (stores after)) new.tables) settings (collect_safe laws freed safe sound))
       (λ n there still tx tree stands.
@@ -318,8 +262,7 @@ module _ {S : Type 0} {kind : StoreKind S} (laws : KindLaws kind) (old new : Cor
       (collect_wide laws freed safe (subst (λ (s : Settings). AreWide s (byte_at kind (stores before)) old.tables) same wide)))
       (λ within. subst (λ (s : Settings). AreWithin kind (stores after) s new.tables) settings
       (collect_within laws freed safe (subst (λ (s : Settings). s.servers ≤ length (stores before)) same enough)
-      (subst (λ (s : Settings). AreWithin kind (stores before) s old.tables) same within)))
-      (unfailed_reads kind (between before after) old new e a unfailed)
+      (subst (λ (s : Settings). AreWithin kind (stores before) s old.tables) same within))) (unfailed_reads kind (between before after) old new e a unfailed)
       (λ X low h. subst (λ (s : Settings). NamesNone s.region (byte_at kind (stores after)) X new.tables) settings
       (freed_never laws freed safe X (subst (λ (s : Settings). NamesNone s.region (byte_at kind (stores before)) X old.tables) same h))) quiet
 
@@ -327,33 +270,30 @@ module _ {S : Type 0} {kind : StoreKind S} (laws : KindLaws kind) (old new : Cor
 abbrev CollectTold : {S : Type 0} → StoreKind S → (old new : CoreView) → ℕ → Answer → Settings → Span S → Type 0
 CollectTold kind old new k a settings s =
     settings ≡ old.settings → old.settings.servers ≤ length s.before → LieIn old.tables.beside.gc (size_in kind s.before)
-    → GoesOnQuietly kind s old (under old new) (event.Collect k) a → TellsCore kind s.before old
-    → IsToldLine kind s old (under old new) (event.Collect k) a
+    → GoesOnQuietly kind s old (under old new) (Event.Collect k) a → TellsCore kind s.before old → IsToldLine kind s old (under old new) (Event.Collect k) a
 
 collect_told : {S : Type 0} {kind : StoreKind S} → KindLaws kind → (t : Span S) (old new : CoreView) (k : ℕ) (a : Answer) → AreSound old.tables
-    → old.settings.servers ≤ length t.before → LieIn old.tables.beside.gc (size_in kind t.before)
-    → GoesOnQuietly kind t old (under old new) (event.Collect k) a → TellsCore kind t.before old
-    → IsByDevices kind t old new (λ before after. CollectTurn kind before after old.tables new.tables k a)
-    → IsToldLine kind t old (under old new) (event.Collect k) a
+    → old.settings.servers ≤ length t.before → LieIn old.tables.beside.gc (size_in kind t.before) → GoesOnQuietly kind t old (under old new) (Event.Collect k) a
+    → TellsCore kind t.before old → IsByDevices kind t old new (λ before after. CollectTurn kind before after old.tables new.tables k a)
+    → IsToldLine kind t old (under old new) (Event.Collect k) a
 collect_told {S} {kind = kind} laws t old new k a sound enough lie quiet tells by =
     let made : CollectTold kind old new k a by.before.settings (between by.before by.after) = λ settings enough lie quiet tells. freed_told laws old new sound
-    (event.Collect k) a (collect_unfailed kind by.before by.after old.tables new.tables k a by.did) by.before by.after
+    (Event.Collect k) a (collect_unfailed kind by.before by.after old.tables new.tables k a by.did) by.before by.after
     (collect_freed laws by.before by.after old.tables new.tables k a by.did) settings by.remembered_before by.remembered_after enough lie quiet tells in
     subst (λ (s : Span S). CollectTold kind old new k a by.before.settings s) by.lent.span_is made by.lent.settings_are enough lie quiet tells
 
 -- ---- each line
 -- what a line that collects nothing punches
-pub none_ranges : (gc : GcView) (e : Event) (a : Answer) (ranges : List (ℕ × Range)) → ((k : ℕ) → e ≢ event.Collect k) → ArePunchedBy gc e a ranges
+pub none_ranges : (gc : GcView) (e : Event) (a : Answer) (ranges : List (ℕ × Range)) → ((k : ℕ) → e ≢ Event.Collect k) → ArePunchedBy gc e a ranges
     → ranges ≡ []
-none_ranges gc (event.Collect k) a ranges other h = absurd (other k refl)
+none_ranges gc (Event.Collect k) a ranges other h = absurd (other k refl)
 none_ranges gc e a ranges other h = h.0
 
 module _ {S : Type 0} {kind : StoreKind S} (laws : KindLaws kind) (t : Span S) (old new : CoreView) (a : Answer) (sound : AreSound old.tables)
     (new_sound : AreSound new.tables) (enough : old.settings.servers ≤ length t.before) (inside : IsInside kind t.before old)
-    (tells : TellsCore kind t.before old)
-    (kinds : (n : ℕ) → IsTrue (is_live old.tables.kv n) → HasKinds (metadata_at old.tables.kv n)) where
+    (tells : TellsCore kind t.before old) (kinds : (n : ℕ) → IsTrue (is_live old.tables.kv n) → HasKinds (metadata_at old.tables.kv n)) where
   -- where nothing is punched
-  pub unpunched : (e : Event) → ((k : ℕ) → e ≢ event.Collect k) → KeepsPunched kind t.before t.after old new e a
+  pub unpunched : (e : Event) → ((k : ℕ) → e ≢ Event.Collect k) → KeepsPunched kind t.before t.after old new e a
       → EachFollows kind t.before t.after [] × KeepsLists kind t.before t.after [] old new
   unpunched e other h =
       let none = none_ranges old.tables.beside.gc e a h.punches.ranges other h.punches.are in (
@@ -361,7 +301,7 @@ module _ {S : Type 0} {kind : StoreKind S} (laws : KindLaws kind) (t : Span S) (
         subst (λ (ranges : List (ℕ × Range)). KeepsLists kind t.before t.after ranges old new) none h.lists,
       )
 
-  other_line : (e : Event) → IsOther e → ((k : ℕ) → e ≢ event.Collect k) → KeepsPunched kind t.before t.after old new e a
+  other_line : (e : Event) → IsOther e → ((k : ℕ) → e ≢ Event.Collect k) → KeepsPunched kind t.before t.after old new e a
       → (TellsTables kind t.before old.settings old.lists old.tables → ServesTold kind t old.settings (old.tables, new.tables) a) → LineTurn kind t old new e a
       → GoesOnQuietly kind t old (under old new) e a → IsToldLine kind t old (under old new) e a
   other_line e other none punched serves turn quiet =
@@ -370,7 +310,7 @@ module _ {S : Type 0} {kind : StoreKind S} (laws : KindLaws kind) (t : Span S) (
       (serves tells.tables)
 
   -- one that leaves the tables
-  same_line : (e : Event) → ((k : ℕ) → e ≢ event.Collect k) → KeepsPunched kind t.before t.after old new e a → new.tables ≡ old.tables → IsUnfailed a
+  same_line : (e : Event) → ((k : ℕ) → e ≢ Event.Collect k) → KeepsPunched kind t.before t.after old new e a → new.tables ≡ old.tables → IsUnfailed a
       → GoesOnQuietly kind t old (under old new) e a → IsToldLine kind t old (under old new) e a
   same_line e none punched same unfailed quiet =
       let still = unpunched e none punched in
@@ -379,38 +319,27 @@ module _ {S : Type 0} {kind : StoreKind S} (laws : KindLaws kind) (t : Span S) (
 
   by_line : (e : Event) → KeepsPunched kind t.before t.after old new e a → ServesTurn kind t old new e a → LineTurn kind t old new e a
       → GoesOnQuietly kind t old (under old new) e a → IsToldLine kind t old (under old new) e a
-  by_line event.Scan punched serves turn quiet =
-      let still = unpunched event.Scan (λ k is. absurd (cc)) punched in
-      scan_told laws t old new sound still.0 enough new_sound inside.scans still.1 event.Scan a quiet tells kinds a refl turn.0
-  by_line (event.Piece n) punched serves turn quiet =
-      let still = unpunched (event.Piece n) (λ k is. absurd (cc)) punched in
-      piece_told laws t old new sound still.0 enough new_sound inside.scans still.1 (event.Piece n) a quiet tells turn.0.before turn.0.after n turn.0.did
-      (line_moves kind t old new sound a (event.Piece n) turn).maps serves
-  by_line (event.Collect k) punched serves turn quiet = collect_told laws t old new k a sound enough inside.scans quiet tells turn.0
-  by_line (event.Client c v) punched serves turn quiet = other_line (event.Client c v) tt (λ k is. absurd (cc)) punched serves turn quiet
-  by_line (event.Plan j job p r) punched serves turn quiet = other_line (event.Plan j job p r) tt (λ k is. absurd (cc)) punched serves turn quiet
-  by_line (event.Put j) punched serves turn quiet = other_line (event.Put j) tt (λ k is. absurd (cc)) punched serves turn quiet
-  by_line (event.DropJob j) punched serves turn quiet = other_line (event.DropJob j) tt (λ k is. absurd (cc)) punched serves turn quiet
-  by_line (event.Down k) punched serves turn quiet =
+  by_line Event.Scan punched serves turn quiet =
+      let still = unpunched Event.Scan (λ k is. absurd (cc)) punched in
+      scan_told laws t old new sound still.0 enough new_sound inside.scans still.1 Event.Scan a quiet tells kinds a refl turn.0
+  by_line (Event.Piece n) punched serves turn quiet =
+      let still = unpunched (Event.Piece n) (λ k is. absurd (cc)) punched in
+      piece_told laws t old new sound still.0 enough new_sound inside.scans still.1 (Event.Piece n) a quiet tells turn.0.before turn.0.after n turn.0.did
+      (line_moves kind t old new sound a (Event.Piece n) turn).maps serves
+  by_line (Event.Collect k) punched serves turn quiet = collect_told laws t old new k a sound enough inside.scans quiet tells turn.0
+  by_line (Event.Down k) punched serves turn quiet =
       let both = server_plain old new k true (nat_lt k old.settings.servers) a turn in
-      same_line (event.Down k) (λ j is. absurd (cc)) punched both.1 (plain_unfailed a both.0) quiet
-  by_line (event.Up k) punched serves turn quiet =
+      same_line (Event.Down k) (λ j is. absurd (cc)) punched both.1 (plain_unfailed a both.0) quiet
+  by_line (Event.Up k) punched serves turn quiet =
       let both = server_plain old new k false (nat_lt k old.settings.servers) a turn in
-      same_line (event.Up k) (λ j is. absurd (cc)) punched both.1 (plain_unfailed a both.0) quiet
-  by_line (event.Dump p) punched serves turn quiet = other_line (event.Dump p) tt (λ k is. absurd (cc)) punched serves turn quiet
-  by_line event.Tree punched serves turn quiet = same_line event.Tree (λ k is. absurd (cc)) punched (ap (λ (core : CoreView). core.tables) turn.1)
+      same_line (Event.Up k) (λ j is. absurd (cc)) punched both.1 (plain_unfailed a both.0) quiet
+  by_line Event.Tree punched serves turn quiet = same_line Event.Tree (λ k is. absurd (cc)) punched (ap (λ (core : CoreView). core.tables) turn.1)
       (plain_unfailed a (tree_plain a turn.2)) quiet
-  by_line event.Save punched serves turn quiet = other_line event.Save tt (λ k is. absurd (cc)) punched serves turn quiet
+  by_line e punched serves turn quiet = other_line e tt (λ k is. absurd (cc)) punched serves turn quiet
 
   pub line_told : (e : Event) → new.settings ≡ old.settings → KeepsPunched kind t.before t.after old new e a → ServesTurn kind t old new e a
       → LineTurn kind t old new e a → GoesOnQuietly kind t old new e a → IsToldLine kind t old new e a
   line_told e same punched serves turn quiet =
-      let is : new ≡ under old new = λ i. record {
-        settings = same i;
-        tables = new.tables;
-        replicas = new.replicas;
-        closed = new.closed;
-        lists = new.lists;
-      } in
+      let is : new ≡ under old new = λ i. record { settings = same i; tables = new.tables; replicas = new.replicas; closed = new.closed; lists = new.lists } in
       subst (λ (core : CoreView). IsToldLine kind t old core e a) (sym is)
       (by_line e punched serves turn (subst (λ (core : CoreView). GoesOnQuietly kind t old core e a) is quiet))

@@ -1,30 +1,9 @@
 -- A byte that a region of a map names is in no set of which the map names none.
-use Rattle.std.proofs.Common.{◌≡◌, ◌+◌, ◌-◌, ◌<◌, ℕ, Bool, true, false, not, ◌&&◌, nat_eq, nat_le, nat_lt, List, [], ◌∷◌, map, Option, None, Some, sym, ap, ◌∙◌}
-use Rattle.std.proofs.Common.{subst, ⊎_elim, arith}
-use Rattle.std.specs.List.{All, list_any}
-use Rattle.std.proofs.lemmas.Bool.{and_parts, or_cases, not-true, true≢false, eqb-true, leb-true, ltb-true}
-use Rattle.std.proofs.lemmas.List.Elements.{All-head, All-tail}
-use Rattle.wtf_base.specs.declared.pointer.Pointer.{Pointer}
-use Rattle.wtf_base.specs.declared.slice.Slice.{Slice}
-use Rattle.wtf_base.specs.Places.{Place, place_in}
-use Rattle.wtf_base.specs.Slices.{len_of, pointers_of}
-use Rattle.wtf_base.proofs.Pointers.{pointers-len}
-use Rattle.wtf_overlay.specs.Lengths.{HasLength}
-use Rattle.wtf_overlay.specs.declared.part.Entry.{Entry}
-use Rattle.wtf_overlay.specs.declared.part.Part.{Part}
-use Rattle.wtf_overlay.specs.declared.part.Part.TheVariants.{Zero, Held}
-use Rattle.wtf_values.specs.declared.key.Key.TheVariants.{Region}
-use Rattle.wtf_values.specs.declared.region.RegionValue.{RegionValue}
-use Rattle.wtf_values.specs.declared.region.Spill.{Spill}
-use Rattle.wtf_meta.specs.Bytes.{PartBytes, EntryBytes, BaseBytes, RegionBytes, ValueBytes, MapBytes}
-use Rattle.wtf_meta.specs.Contents.{Told, lists_in}
-use Rattle.wtf_meta.specs.Lists.{or_none}
-use Rattle.wtf_meta.specs.Maps.{Map}
-use Rattle.wtf_meta.proofs.ListTests.{has_list}
-use Rattle.wtf_replay.specs.Insides.{lists_have}
-use Rattle.wtf_gc.specs.Named.{pointer_has, slice_has, part_has, list_has, base_has, own_has, under_has, region_has}
-use Rattle.wtf_clients.specs.Safe.{off}
-use Rattle.wtf_core.specs.Quiet.{MapNames}
+use Rattle.wtf_core.proofs.Common.{All, Told, Map, off, ◌≡◌, ◌+◌, ◌-◌, ◌<◌, ℕ, Bool, true, not, ◌&&◌, List, [], ◌∷◌, map, None, Some, sym, ap, ◌∙◌}
+use Rattle.wtf_core.proofs.Common.{list_any, and_parts, or_cases, not-true, eqb-true, leb-true, ltb-true, HasLength, PartBytes, BaseBytes, slice_has, under_has}
+use Rattle.wtf_core.proofs.Common.{true≢false, pointers_of, pointers-len, RegionValue, EntryBytes, RegionBytes, ValueBytes, lists_have, pointer_has, region_has}
+use Rattle.wtf_core.proofs.Common.{All-head, All-tail, Pointer, place_in, len_of, MapBytes, lists_in, or_none, has_list, part_has, list_has, base_has, MapNames}
+use Rattle.wtf_core.proofs.Common.{Slice, Place, Entry, Part, Zero, Held, Region, Spill, own_has, false, nat_eq, nat_le, nat_lt, Option, subst, ⊎_elim, arith}
 
 -- a byte that a pointer has is one that it points to
 record PointsTo (q : Pointer) (p : Place) : Type 0 where
@@ -42,11 +21,7 @@ points_to q p here =
     let same_server : q.server.0 ≡ p.server = sym (eqb-true p.server q.server.0 server.0) in
     let same_file : q.file ≡ p.file = sym (eqb-true p.file q.file file.0) in
     let same_at : q.at + (p.at - q.at) ≡ p.at = omega (arith, from) in
-    record {
-      index = p.at - q.at;
-      below = omega (arith, from, upto);
-      is = λ i. record { server = same_server i; file = same_file i; at = same_at i };
-    }
+    record { index = p.at - q.at; below = omega (arith, from, upto); is = λ i. record { server = same_server i; file = same_file i; at = same_at i } }
 
 module _ (X : Place → Bool) where
   pointers_none : (n : ℕ) (qs : List Pointer) → All (λ (q : Pointer). q.len ≡ n) qs → ((i : ℕ) → i < n → off X (map (place_in i) qs) ≡ true) → (p : Place)
@@ -63,8 +38,7 @@ module _ (X : Place → Bool) where
       ∙ not-true (X (place_in to.index q)) (and_parts (not (X (place_in to.index q))) (off X (map (place_in to.index) qs))
       (none to.index (omega (arith, below, len)))).0)
       (λ later. pointers_none n qs (All-tail Len q qs lens) (λ i below. (and_parts (not (X (place_in i q))) (off X (map (place_in i) qs)) (none i below)).1) p
-      later)
-      (or_cases (pointer_has q p) (list_any (λ r. pointer_has r p) qs) here)
+      later) (or_cases (pointer_has q p) (list_any (λ r. pointer_has r p) qs) here)
 
   slice_none : (s : Slice) → PartBytes (off X) (len_of s) (Held s) → (p : Place) → slice_has s p ≡ true → X p ≡ false
   slice_none s bytes p here = pointers_none (len_of s) (pointers_of s) (pointers-len s) bytes p here

@@ -1,70 +1,17 @@
 -- What a core answers to a line is what the machine may, and the core goes on to stand for it.
-use Rattle.std.proofs.Common.{◌≡◌, ◌≢◌, ◌<◌, ◌⊎◌, ℕ, Bool, true, false, nat_eq, nat_lt, if◌then◌else◌, List}
-use Rattle.std.proofs.Common.{refl, sym, ap, subst, ◌∙◌, inl, inr, arith, ne_eqb, eq-eqb}
-use Rattle.std.specs.Bool.{MatchBool}
-use Rattle.std.specs.FinMap.{get}
-use Rattle.std.specs.List.{Contains}
-use Rattle.wtf_base.specs.declared.settings.Settings.{Settings}
-use Rattle.wtf_dev.specs.Store.{StoreKind, KindLaws}
-use Rattle.wtf_kv.specs.Stores.{versions_of}
-use Rattle.wtf_replica.specs.Bytes.{byte_at}
-use Rattle.wtf_replica.specs.Downs.{is_down}
-use Rattle.wtf_replica.specs.Spans.{Span}
-use Rattle.wtf_values.specs.Keys.{key_cmp}
-use Rattle.wtf_model.specs.declared.answer.Answer.{Answer}
-use Rattle.wtf_model.specs.declared.answer.Answer.TheVariants as answer
-use Rattle.wtf_model.specs.declared.answer.Word.{Word}
-use Rattle.wtf_model.specs.declared.answer.Word.TheVariants.{NoServer, ScanBusy, NoScan}
-use Rattle.wtf_model.specs.declared.op.JobKind.{JobKind}
-use Rattle.wtf_model.specs.declared.event.Event.{Event}
-use Rattle.wtf_model.specs.declared.event.Event.TheVariants as event
-use Rattle.wtf_model.specs.declared.event.Verb.{Verb}
-use Rattle.wtf_model.specs.Machines.{Machine}
-use Rattle.wtf_model.specs.Tree.{root_alone}
+use Rattle.wtf_core.proofs.Common.{MatchBool, get, Contains, Settings, StoreKind, KindLaws, versions_of, byte_at, is_down, Span, key_cmp, Answer, Word}
+use Rattle.wtf_core.proofs.Common.{NoServer, ScanBusy, NoScan, JobKind, Event, Verb, Machine, root_alone, MaySave, server_answer, dump_answer, MayFailRead}
+use Rattle.wtf_core.proofs.Common.{after, scanning, scanned, scanning-rest, scanned-rest, is_down-event, any_slice, Told, Stands, TellsOn, Dev, stores}
+use Rattle.wtf_core.proofs.Common.{is_inside, TablesBytes, IsSafe, AreUp, SaveTurn, ScanTurn, StartsTurn, PieceTurn, DoesTurn, seeing, AreSound, HasKinds}
+use Rattle.wtf_core.proofs.Common.{IsImageTree, StandsForSlot, StandsForLabel, TablesStand, ScansStand, AreTrue, BesideView, TablesView, of_client, of_label}
+use Rattle.wtf_core.proofs.Common.{metadata_now, collect_tables, Freed, collect_freed, number_cases, pruned_stand, start_maps, scan_may, scan_stands, piece_may}
+use Rattle.wtf_core.proofs.Common.{piece_stands, collect_may, collect_stands, pruned_keeps, none_moved, stays_stand, IsEvent, StandsFor, IsSmall, TellsCore}
+use Rattle.wtf_core.proofs.Common.{ServerTurn, Switches, LineTurn, CoreView, KnowsLists, lent_of, ShowsAlike, alike_stand, ◌≡◌, ◌≢◌, ◌<◌, ◌⊎◌, ℕ, Bool, true}
+use Rattle.wtf_core.proofs.Common.{false, nat_eq, nat_lt, if◌then◌else◌, List, refl, sym, ap, subst, ◌∙◌, inl, inr, arith, ne_eqb, eq-eqb}
 use Rattle.wtf_model.specs.Machines as machine
-use Rattle.wtf_model.specs.Lawful.{MaySave, server_answer, dump_answer, MayFailRead}
-use Rattle.wtf_model.specs.Steps.{after, scanning, scanned}
-use Rattle.wtf_model.proofs.MachineLaws.{scanning-rest, scanned-rest}
-use Rattle.wtf_model.proofs.ServerLaws.{is_down-event}
-use Rattle.wtf_meta.specs.Bytes.{any_slice}
-use Rattle.wtf_meta.specs.Contents.{Told}
-use Rattle.wtf_meta.specs.Trees.{Stands}
-use Rattle.wtf_meta.proofs.Telling.{TellsOn}
-use Rattle.wtf_region.specs.declared.dev.Dev.{Dev}
-use Rattle.wtf_region.specs.Devs.{stores}
-use Rattle.wtf_region.specs.Inside.{is_inside}
-use Rattle.wtf_clients.specs.Named.{TablesBytes}
-use Rattle.wtf_clients.specs.Safe.{IsSafe}
-use Rattle.wtf_clients.specs.Saves.{AreUp, SaveTurn}
-use Rattle.wtf_clients.specs.ScanTurns.{ScanTurn, StartsTurn, PieceTurn, DoesTurn}
-use Rattle.wtf_clients.specs.Seeing.{seeing}
-use Rattle.wtf_clients.specs.Sounds.{AreSound}
-use Rattle.wtf_clients.specs.Standing.{HasKinds, IsImageTree, StandsForSlot, StandsForLabel, TablesStand, ScansStand}
-use Rattle.wtf_clients.specs.Turns.{AreTrue}
-use Rattle.wtf_clients.specs.Views.{BesideView, TablesView, of_client, of_label, metadata_now}
-use Rattle.wtf_clients.proofs.Collected.{collect_tables}
-use Rattle.wtf_clients.proofs.Freeing.{Freed, collect_freed}
-use Rattle.wtf_clients.proofs.Pins.{number_cases}
-use Rattle.wtf_clients.proofs.PrunedTables.{pruned_stand}
-use Rattle.wtf_clients.proofs.ScanFrames.{start_maps}
-use Rattle.wtf_clients.proofs.ScanMays.{scan_may, scan_stands, piece_may, piece_stands, collect_may, collect_stands}
-use Rattle.wtf_clients.proofs.Scanning.{pruned_keeps}
-use Rattle.wtf_clients.proofs.SinceLaws.{none_moved}
-use Rattle.wtf_clients.proofs.Staying.{stays_stand}
-use Rattle.wtf_core.specs.Answers.{IsEvent}
-use Rattle.wtf_core.specs.Standing.{StandsFor, IsSmall}
-use Rattle.wtf_core.specs.Telling.{TellsCore}
-use Rattle.wtf_core.specs.Turns.{ServerTurn, Switches, LineTurn}
-use Rattle.wtf_core.specs.Views.{CoreView, KnowsLists, lent_of}
-use Rattle.wtf_core.proofs.Aged.{kinds_of, scans_on}
-use Rattle.wtf_core.proofs.Answering.{server_plain}
-use Rattle.wtf_core.proofs.JobLines.{label_none, plan_stands, put_stand, drop_stand}
-use Rattle.wtf_core.proofs.Lines.{client_stands}
-use Rattle.wtf_core.proofs.Moves.{line_moves, planned_free}
-use Rattle.wtf_core.proofs.Plain.{tables_later}
-use Rattle.wtf_core.proofs.SaveLaws.{save_stands}
-use Rattle.wtf_core.proofs.Stamped.{IsOther, IsFree, event_stamped}
-use Rattle.wtf_core.proofs.Tidying.{ShowsAlike, alike_stand}
+use Rattle.wtf_core.proofs.{Aged.kinds_of, Aged.scans_on, Answering.server_plain, JobLines.label_none, JobLines.plan_stands, JobLines.put_stand}
+use Rattle.wtf_core.proofs.{JobLines.drop_stand, Lines.client_stands, Moves.line_moves, Moves.planned_free, Plain.tables_later, SaveLaws.save_stands}
+use Rattle.wtf_core.proofs.{Stamped.IsOther, Stamped.IsFree, Stamped.event_stamped}
 
 -- ---- a core that stays stands for the same over stores that tell more
 stays : (told later : Told) (core : CoreView) (m : Machine) → AreSound core.tables → StandsFor told core m → TellsOn told later → StandsFor later core m
@@ -120,44 +67,44 @@ module _ (told later : Told) (old new : CoreView) (m : Machine) (k : ℕ) (to : 
       transactions may jobs
 
   -- where there is such a server, and where there is none
-  switch_line : (e : Event) → ((c : Answer) → c ≡ answer.Okay → IsSwitch (after m e c)) → ((c : Answer) → (after m e c).settings ≡ m.settings)
-      → TablesStand old.settings.region later old.tables (after m e answer.Okay) → ((w : Word) → after m e (answer.Refused w) ≡ m)
+  switch_line : (e : Event) → ((c : Answer) → c ≡ Answer.Okay → IsSwitch (after m e c)) → ((c : Answer) → (after m e c).settings ≡ m.settings)
+      → TablesStand old.settings.region later old.tables (after m e Answer.Okay) → ((w : Word) → after m e (Answer.Refused w) ≡ m)
       → ScansStand new.tables (after m e a) → ServerTurn old new k to a → (a ≡ server_answer m k) × StandsFor later new (after m e a)
   switch_line e moves settings tables stay scans turn = by (nat_lt k old.settings.servers) refl turn
     where
       servers : nat_lt k m.settings.servers ≡ nat_lt k old.settings.servers
       servers = ap (λ (s : Settings). nat_lt k s.servers) stands.settings
 
-      by : (b : Bool) → nat_lt k old.settings.servers ≡ b → MatchBool b (Switches old new k to a) ((a ≡ answer.Refused NoServer) × (new ≡ old))
+      by : (b : Bool) → nat_lt k old.settings.servers ≡ b → MatchBool b (Switches old new k to a) ((a ≡ Answer.Refused NoServer) × (new ≡ old))
           → (a ≡ server_answer m k) × StandsFor later new (after m e a)
       by true is t = (
-        t.answer ∙ sym (ap (λ b. if b then answer.Okay else answer.Refused NoServer) (servers ∙ is)),
+        t.answer ∙ sym (ap (λ b. if b then Answer.Okay else Answer.Refused NoServer) (servers ∙ is)),
         switched t (after m e a) (settings a) (subst (λ c. TablesStand old.settings.region later old.tables (after m e c)) (sym t.answer) tables)
             (moves a t.answer) scans,
       )
       by false is t = (
-        t.0 ∙ sym (ap (λ b. if b then answer.Okay else answer.Refused NoServer) (servers ∙ is)),
+        t.0 ∙ sym (ap (λ b. if b then Answer.Okay else Answer.Refused NoServer) (servers ∙ is)),
         subst (λ (next : Machine). StandsFor later new next) (sym (ap (after m e) t.0 ∙ stay NoServer))
             (subst (λ (core : CoreView). StandsFor later core m) (sym t.1) (stays told later old m sound stands on)),
       )
 
 down_line : (told later : Told) (old new : CoreView) (m : Machine) (k : ℕ) (a : Answer) → AreSound old.tables → StandsFor told old m → TellsOn told later →
-    ScansStand new.tables (after m (event.Down k) a) → ServerTurn old new k true a
-    → (a ≡ server_answer m k) × StandsFor later new (after m (event.Down k) a)
+    ScansStand new.tables (after m (Event.Down k) a) → ServerTurn old new k true a
+    → (a ≡ server_answer m k) × StandsFor later new (after m (Event.Down k) a)
 down_line told later old new m k a sound stands on scans turn =
-    switch_line told later old new m k true a sound stands on (event.Down k)
-    (λ c is. subst (λ d. IsSwitch told later old new m k true a sound stands on (after m (event.Down k) d)) (sym is)
-    (is_down-event m (event.Down k) answer.Okay))
-    (λ c. (event_stamped m (event.Down k) c tt tt).settings)
-    (tables_beside told later old new m k true a sound stands on (after m (event.Down k) answer.Okay) refl refl refl refl refl) (λ w. refl) scans turn
+    switch_line told later old new m k true a sound stands on (Event.Down k)
+    (λ c is. subst (λ d. IsSwitch told later old new m k true a sound stands on (after m (Event.Down k) d)) (sym is)
+    (is_down-event m (Event.Down k) Answer.Okay))
+    (λ c. (event_stamped m (Event.Down k) c tt tt).settings)
+    (tables_beside told later old new m k true a sound stands on (after m (Event.Down k) Answer.Okay) refl refl refl refl refl) (λ w. refl) scans turn
 
 up_line : (told later : Told) (old new : CoreView) (m : Machine) (k : ℕ) (a : Answer) → AreSound old.tables → StandsFor told old m → TellsOn told later →
-    ScansStand new.tables (after m (event.Up k) a) → ServerTurn old new k false a
-    → (a ≡ server_answer m k) × StandsFor later new (after m (event.Up k) a)
-up_line told later old new m k a sound stands on scans turn = switch_line told later old new m k false a sound stands on (event.Up k)
-    (λ c is. subst (λ d. IsSwitch told later old new m k false a sound stands on (after m (event.Up k) d)) (sym is) (is_down-event m (event.Up k) answer.Okay))
-    (λ c. (event_stamped m (event.Up k) c tt tt).settings)
-    (tables_beside told later old new m k false a sound stands on (after m (event.Up k) answer.Okay) refl refl refl refl refl) (λ w. refl) scans turn
+    ScansStand new.tables (after m (Event.Up k) a) → ServerTurn old new k false a
+    → (a ≡ server_answer m k) × StandsFor later new (after m (Event.Up k) a)
+up_line told later old new m k a sound stands on scans turn = switch_line told later old new m k false a sound stands on (Event.Up k)
+    (λ c is. subst (λ d. IsSwitch told later old new m k false a sound stands on (after m (Event.Up k) d)) (sym is) (is_down-event m (Event.Up k) Answer.Okay))
+    (λ c. (event_stamped m (Event.Up k) c tt tt).settings)
+    (tables_beside told later old new m k false a sound stands on (after m (Event.Up k) Answer.Okay) refl refl refl refl refl) (λ w. refl) scans turn
 
 -- ---- each line that collects nothing
 -- the stores tell, and go on to
@@ -183,12 +130,10 @@ module _ {S : Type 0} (kind : StoreKind S) (t : Span S) (old new : CoreView) (m 
   count = ap (λ (s : Settings). s.servers) stands.settings
 
   -- the scans stand as before, where none began and no part was done
-  scans_by : (e : Event) → IsOther e → IsFree m e a → LineTurn kind t old new e a → HasKinds (metadata_now new.tables.kv)
-      → ScansStand new.tables (after m e a)
+  scans_by : (e : Event) → IsOther e → IsFree m e a → LineTurn kind t old new e a → HasKinds (metadata_now new.tables.kv) → ScansStand new.tables (after m e a)
   scans_by e other free turn kinds =
       scans_on size told old.tables new.tables e a m (after m e a) sound stands.tables (line_moves kind t old new sound a e turn) other
-      (event_stamped m e a other free)
-      kinds stands.scans
+      (event_stamped m e a other free) kinds stands.scans
 
   -- also where the tables are the same
   server_scans : (e : Event) → IsOther e → IsFree m e a → LineTurn kind t old new e a → new.tables ≡ old.tables → ScansStand new.tables (after m e a)
@@ -198,8 +143,7 @@ module _ {S : Type 0} (kind : StoreKind S) (t : Span S) (old new : CoreView) (m 
 
   -- so the core does, with its tables
   stands_by : (e : Event) → IsOther e → IsFree m e a → LineTurn kind t old new e a → new.settings ≡ old.settings → new.replicas ≡ old.replicas
-      → ((k : ℕ) → machine.is_down (after m e a) k ≡ machine.is_down m k)
-      → TablesStand size later new.tables (after m e a) → StandsFor later new (after m e a)
+      → ((k : ℕ) → machine.is_down (after m e a) k ≡ machine.is_down m k) → TablesStand size later new.tables (after m e a) → StandsFor later new (after m e a)
   stands_by e other free turn same replicas down tables = record {
     settings = (event_stamped m e a other free).settings ∙ stands.settings ∙ sym same;
     tables = subst (λ (s : Settings). TablesStand s.region later new.tables (after m e a)) (sym same) tables;
@@ -218,54 +162,53 @@ module _ {S : Type 0} (kind : StoreKind S) (t : Span S) (old new : CoreView) (m 
   rest_replicas : Rest → new.replicas ≡ old.replicas
   rest_replicas h = ap (λ (c : CoreView). c.replicas) h
 
-  client_event : (c : ℕ) (v : Verb) → IsSmall m → LineTurn kind t old new (event.Client c v) a → IsEvent later new m (event.Client c v) a
+  client_event : (c : ℕ) (v : Verb) → IsSmall m → LineTurn kind t old new (Event.Client c v) a → IsEvent later new m (Event.Client c v) a
   client_event c v small h =
       let both = client_stands (seeing kind t (lent_of old new)) old.tables new.tables m c v a sound region count small stands.tables on
       (tells.tables.all, lists) h.0 in
       record {
         may = both.0;
-        stands = stands_by (event.Client c v) tt tt h (rest_settings h.1) (rest_replicas h.1) (is_down-event m (event.Client c v) a) both.1;
+        stands = stands_by (Event.Client c v) tt tt h (rest_settings h.1) (rest_replicas h.1) (is_down-event m (Event.Client c v) a) both.1;
       }
 
-  plan_event : (j : ℕ) (job : JobKind) (p : List ℕ) (r : ℕ) → LineTurn kind t old new (event.Plan j job p r) a → IsEvent later new m (event.Plan j job p r) a
+  plan_event : (j : ℕ) (job : JobKind) (p : List ℕ) (r : ℕ) → LineTurn kind t old new (Event.Plan j job p r) a → IsEvent later new m (Event.Plan j job p r) a
   plan_event j job p r h =
       let both = plan_stands old.tables new.tables j sound (seeing kind t (lent_of old new)) m stands.tables on job p r a
       region count (tells.tables.all, lists) h.0 in
       record {
         may = both.0;
-        stands = stands_by (event.Plan j job p r) tt
+        stands = stands_by (Event.Plan j job p r) tt
             (λ is. label_none size told old.tables.kv (of_label old.tables.beside.jobs j) (get m.jobs j) (stands.tables.jobs j)
             (planned_free old.tables new.tables j sound (seeing kind t (lent_of old new)) job p r a h.0 is))
-            h (rest_settings h.1) (rest_replicas h.1)
-            (is_down-event m (event.Plan j job p r) a) both.1;
+            h (rest_settings h.1) (rest_replicas h.1) (is_down-event m (Event.Plan j job p r) a) both.1;
       }
 
-  put_event : (j : ℕ) → LineTurn kind t old new (event.Put j) a → IsEvent later new m (event.Put j) a
+  put_event : (j : ℕ) → LineTurn kind t old new (Event.Put j) a → IsEvent later new m (Event.Put j) a
   put_event j h =
       let both = put_stand old.tables new.tables j sound size told later m stands.tables on a h.0 in
       record {
         may = both.0;
-        stands = stands_by (event.Put j) tt tt h (ap (λ (c : CoreView). c.settings) h.1) (ap (λ (c : CoreView). c.replicas) h.1)
-            (is_down-event m (event.Put j) a) both.1;
+        stands = stands_by (Event.Put j) tt tt h (ap (λ (c : CoreView). c.settings) h.1) (ap (λ (c : CoreView). c.replicas) h.1)
+            (is_down-event m (Event.Put j) a) both.1;
       }
 
-  drop_event : (j : ℕ) → LineTurn kind t old new (event.DropJob j) a → IsEvent later new m (event.DropJob j) a
+  drop_event : (j : ℕ) → LineTurn kind t old new (Event.DropJob j) a → IsEvent later new m (Event.DropJob j) a
   drop_event j h =
       let both = drop_stand old.tables new.tables j sound size told later m stands.tables on a h.0 in
       record {
         may = both.0;
-        stands = stands_by (event.DropJob j) tt tt h (ap (λ (c : CoreView). c.settings) h.1) (ap (λ (c : CoreView). c.replicas) h.1)
-            (is_down-event m (event.DropJob j) a) both.1;
+        stands = stands_by (Event.DropJob j) tt tt h (ap (λ (c : CoreView). c.settings) h.1) (ap (λ (c : CoreView). c.replicas) h.1)
+            (is_down-event m (Event.DropJob j) a) both.1;
       }
 
-  dump_event : (p : List ℕ) → LineTurn kind t old new (event.Dump p) a → IsEvent later new m (event.Dump p) a
+  dump_event : (p : List ℕ) → LineTurn kind t old new (Event.Dump p) a → IsEvent later new m (Event.Dump p) a
   dump_event p h =
       let due : (a ≡ dump_answer m p) ⊎ MayFailRead m.settings.servers (dump_answer m p) a =
       subst (λ n. (a ≡ dump_answer m p) ⊎ MayFailRead n (dump_answer m p) a) (sym count)
       (h.0.shows lists old.tables.next_tx 0 m.now (stands.tables.later old.tables.next_tx (omega arith))) in
       record {
         may = due;
-        stands = stands_by (event.Dump p) tt tt h (rest_settings h.1) (rest_replicas h.1) (λ k. refl)
+        stands = stands_by (Event.Dump p) tt tt h (rest_settings h.1) (rest_replicas h.1) (λ k. refl)
             (stays_stand old.tables new.tables 0 sound (h.0.stays 0) size told later m stands.tables on);
       }
 
@@ -273,22 +216,20 @@ module _ {S : Type 0} (kind : StoreKind S) (t : Span S) (old new : CoreView) (m 
   save_may turn = by a turn
     where
       by : (b : Answer) → SaveTurn (AreUp old.replicas old.settings.servers) old.tables new.tables b → MaySave m b
-      by (answer.Saved n) (number, up, saves) = (
-        number ∙ sym stands.tables.number,
-        λ k lt. sym (stands.down k) ∙ up k (subst (λ (s : Settings). k < s.servers) stands.settings lt),
-      )
-      by answer.FaultSave t = tt
+      by (Answer.Saved n) (number, up, saves) =
+          (number ∙ sym stands.tables.number, λ k lt. sym (stands.down k) ∙ up k (subst (λ (s : Settings). k < s.servers) stands.settings lt))
+      by Answer.FaultSave t = tt
       by b t = absurd t
 
-  save_event : LineTurn kind t old new event.Save a → IsEvent later new m event.Save a
+  save_event : LineTurn kind t old new Event.Save a → IsEvent later new m Event.Save a
   save_event h = record {
     may = save_may h.0;
-    stands = stands_by event.Save tt tt h (ap (λ (c : CoreView). c.settings) h.1) (ap (λ (c : CoreView). c.replicas) h.1)
-        (is_down-event m event.Save a)
+    stands = stands_by Event.Save tt tt h (ap (λ (c : CoreView). c.settings) h.1) (ap (λ (c : CoreView). c.replicas) h.1)
+        (is_down-event m Event.Save a)
         (save_stands (AreUp old.replicas old.settings.servers) old.tables new.tables sound size told later m a stands.tables on h.0);
   }
 
-  tree_event : LineTurn kind t old new event.Tree a → IsEvent later new m event.Tree a
+  tree_event : LineTurn kind t old new Event.Tree a → IsEvent later new m Event.Tree a
   tree_event h = record {
     may = h.0 told old.tables.next_tx 0 m.now (stands.tables.later old.tables.next_tx (omega arith));
     stands = subst (λ (core : CoreView). StandsFor later core m) (sym h.1) (stays told later old m sound stands on);
@@ -315,13 +256,13 @@ module _ {S : Type 0} (kind : StoreKind S) (t : Span S) (old new : CoreView) (m 
 
   -- so a machine of other scans
   scan_tables : (b : Answer) → ScanTurn kind t.before old.tables new.tables b → TablesStand size later new.tables (scanning m b)
-  scan_tables (answer.Refused ScanBusy) h = subst (λ (tables : TablesView). TablesStand size later tables m) (sym h.0) before_later
-  scan_tables (answer.Held who) h = subst (λ (tables : TablesView). TablesStand size later tables m) (sym h.0) before_later
-  scan_tables answer.Scanning h = machine_beside size later new.tables m (scanning m answer.Scanning)
+  scan_tables (Answer.Refused ScanBusy) h = subst (λ (tables : TablesView). TablesStand size later tables m) (sym h.0) before_later
+  scan_tables (Answer.Held who) h = subst (λ (tables : TablesView). TablesStand size later tables m) (sym h.0) before_later
+  scan_tables Answer.Scanning h = machine_beside size later new.tables m (scanning m Answer.Scanning)
       (alike_stand old.tables new.tables sound (started_alike h) size later m before_later) refl refl refl refl refl
   scan_tables b h = absurd h
 
-  scan_event : LineTurn kind t old new event.Scan a → IsEvent later new m event.Scan a
+  scan_event : LineTurn kind t old new Event.Scan a → IsEvent later new m Event.Scan a
   scan_event h =
       let same : new.settings ≡ old.settings = ap (λ (c : CoreView). c.settings) h.1 in
       record {
@@ -329,7 +270,7 @@ module _ {S : Type 0} (kind : StoreKind S) (t : Span S) (old new : CoreView) (m 
         stands = record {
           settings = ap (λ (x : Machine). x.settings) (scanning-rest m a) ∙ stands.settings ∙ sym same;
           tables = subst (λ (s : Settings). TablesStand s.region later new.tables (scanning m a)) (sym same) (scan_tables a h.0);
-          down = λ k. ap (λ (c : CoreView). is_down c.replicas k) h.1 ∙ stands.down k ∙ sym (is_down-event m event.Scan a k);
+          down = λ k. ap (λ (c : CoreView). is_down c.replicas k) h.1 ∙ stands.down k ∙ sym (is_down-event m Event.Scan a k);
           scans = scan_stands kind t.before size told old.tables new.tables m sound stands.tables stands.scans a h.0;
         };
       }
@@ -339,15 +280,15 @@ module _ {S : Type 0} (kind : StoreKind S) (t : Span S) (old new : CoreView) (m 
 
   piece_tables : (before after : Dev S) (n : ℕ) (b : Answer) → PieceTurn kind before after old.tables new.tables n b
       → TablesStand size later new.tables (scanned m b)
-  piece_tables before after n (answer.Refused NoScan) h = subst (λ (tables : TablesView). TablesStand size later tables m) (sym h.0) before_later
-  piece_tables before after n (answer.More left) h =
-      machine_beside size later new.tables m (scanned m (answer.More left)) (does_tables before after n left h.1) refl refl refl refl refl
-  piece_tables before after n answer.Done h =
-      machine_beside size later new.tables m (scanned m answer.Done) (does_tables before after n 0 h) refl refl refl refl refl
+  piece_tables before after n (Answer.Refused NoScan) h = subst (λ (tables : TablesView). TablesStand size later tables m) (sym h.0) before_later
+  piece_tables before after n (Answer.More left) h =
+      machine_beside size later new.tables m (scanned m (Answer.More left)) (does_tables before after n left h.1) refl refl refl refl refl
+  piece_tables before after n Answer.Done h =
+      machine_beside size later new.tables m (scanned m Answer.Done) (does_tables before after n 0 h) refl refl refl refl refl
   piece_tables before after n b h = pruned_stand old.tables new.tables sound h.pruned.kv (pruned_keeps old.tables new.tables h.pruned) size later m before_later
 
-  piece_event : KindLaws kind → TablesBytes (is_inside kind t.before old.settings) any_slice old.tables → (n : ℕ) → LineTurn kind t old new (event.Piece n) a
-      → IsEvent later new m (event.Piece n) a
+  piece_event : KindLaws kind → TablesBytes (is_inside kind t.before old.settings) any_slice old.tables → (n : ℕ) → LineTurn kind t old new (Event.Piece n) a
+      → IsEvent later new m (Event.Piece n) a
   piece_event laws inside n h =
       let by = h.0 in
       let same : new.settings ≡ old.settings = rest_settings h.1 in
@@ -359,7 +300,7 @@ module _ {S : Type 0} (kind : StoreKind S) (t : Span S) (old new : CoreView) (m 
         stands = record {
           settings = ap (λ (x : Machine). x.settings) (scanned-rest m a) ∙ stands.settings ∙ sym same;
           tables = subst (λ (s : Settings). TablesStand s.region later new.tables (scanned m a)) (sym same) (piece_tables by.before by.after n a by.did);
-          down = λ k. ap (λ (c : CoreView). is_down c.replicas k) h.1 ∙ stands.down k ∙ sym (is_down-event m (event.Piece n) a k);
+          down = λ k. ap (λ (c : CoreView). is_down c.replicas k) h.1 ∙ stands.down k ∙ sym (is_down-event m (Event.Piece n) a k);
           scans = piece_stands kind by.before by.after old.tables new.tables n m stands.scans sound a by.did;
         };
       }
@@ -376,7 +317,7 @@ module _ {S : Type 0} {kind : StoreKind S} (laws : KindLaws kind) (old new : Cor
       (subst (λ (s : Settings). TablesStand s.region (byte_at kind (stores before)) old.tables m) (sym settings) tables))
 
   collect_event : (t : Span S) (k : ℕ) (a : Answer) → StandsFor (byte_at kind t.before) old m → TellsCore kind t.before old
-      → LineTurn kind t old new (event.Collect k) a → IsEvent (byte_at kind t.after) new m (event.Collect k) a
+      → LineTurn kind t old new (Event.Collect k) a → IsEvent (byte_at kind t.after) new m (Event.Collect k) a
   collect_event t k a stands tells h =
       let by = h.0 in
       let freed = collect_freed laws by.before by.after old.tables new.tables k a by.did in
@@ -398,25 +339,25 @@ module _ {S : Type 0} {kind : StoreKind S} (laws : KindLaws kind) (old new : Cor
 module _ {S : Type 0} {kind : StoreKind S} (laws : KindLaws kind) (t : Span S) (old new : CoreView) (m : Machine) (a : Answer) (sound : AreSound old.tables)
     (stands : StandsFor (byte_at kind t.before) old m) (tells : TellsCore kind t.before old)
     (inside : TablesBytes (is_inside kind t.before old.settings) any_slice old.tables) where
-  pub line_stands : (e : Event) → IsSmall m → (((k : ℕ) → e ≢ event.Collect k) → TellsOn (byte_at kind t.before) (byte_at kind t.after))
+  pub line_stands : (e : Event) → IsSmall m → (((k : ℕ) → e ≢ Event.Collect k) → TellsOn (byte_at kind t.before) (byte_at kind t.after))
       → LineTurn kind t old new e a → IsEvent (byte_at kind t.after) new m e a
-  line_stands (event.Client c v) small on h = client_event kind t old new m a sound stands (on (λ k is. absurd (cc))) tells c v small h
-  line_stands (event.Plan j job p r) small on h = plan_event kind t old new m a sound stands (on (λ k is. absurd (cc))) tells j job p r h
-  line_stands (event.Put j) small on h = put_event kind t old new m a sound stands (on (λ k is. absurd (cc))) tells j h
-  line_stands (event.DropJob j) small on h = drop_event kind t old new m a sound stands (on (λ k is. absurd (cc))) tells j h
-  line_stands (event.Down k) small on h =
+  line_stands (Event.Client c v) small on h = client_event kind t old new m a sound stands (on (λ k is. absurd (cc))) tells c v small h
+  line_stands (Event.Plan j job p r) small on h = plan_event kind t old new m a sound stands (on (λ k is. absurd (cc))) tells j job p r h
+  line_stands (Event.Put j) small on h = put_event kind t old new m a sound stands (on (λ k is. absurd (cc))) tells j h
+  line_stands (Event.DropJob j) small on h = drop_event kind t old new m a sound stands (on (λ k is. absurd (cc))) tells j h
+  line_stands (Event.Down k) small on h =
       let still : TellsOn (byte_at kind t.before) (byte_at kind t.after) = on (λ j is. absurd (cc)) in
       let both = down_line (byte_at kind t.before) (byte_at kind t.after) old new m k a sound stands still
-      (server_scans kind t old new m a sound stands still tells (event.Down k) tt tt h (server_plain old new k true (nat_lt k old.settings.servers) a h).1) h in
+      (server_scans kind t old new m a sound stands still tells (Event.Down k) tt tt h (server_plain old new k true (nat_lt k old.settings.servers) a h).1) h in
       record { may = both.0; stands = both.1 }
-  line_stands (event.Up k) small on h =
+  line_stands (Event.Up k) small on h =
       let still : TellsOn (byte_at kind t.before) (byte_at kind t.after) = on (λ j is. absurd (cc)) in
       let both = up_line (byte_at kind t.before) (byte_at kind t.after) old new m k a sound stands still
-      (server_scans kind t old new m a sound stands still tells (event.Up k) tt tt h (server_plain old new k false (nat_lt k old.settings.servers) a h).1) h in
+      (server_scans kind t old new m a sound stands still tells (Event.Up k) tt tt h (server_plain old new k false (nat_lt k old.settings.servers) a h).1) h in
       record { may = both.0; stands = both.1 }
-  line_stands (event.Dump p) small on h = dump_event kind t old new m a sound stands (on (λ k is. absurd (cc))) tells p h
-  line_stands event.Tree small on h = tree_event kind t old new m a sound stands (on (λ k is. absurd (cc))) tells h
-  line_stands event.Save small on h = save_event kind t old new m a sound stands (on (λ k is. absurd (cc))) tells h
-  line_stands event.Scan small on h = scan_event kind t old new m a sound stands (on (λ k is. absurd (cc))) tells h
-  line_stands (event.Piece n) small on h = piece_event kind t old new m a sound stands (on (λ k is. absurd (cc))) tells laws inside n h
-  line_stands (event.Collect k) small on h = collect_event laws old new m sound t k a stands tells h
+  line_stands (Event.Dump p) small on h = dump_event kind t old new m a sound stands (on (λ k is. absurd (cc))) tells p h
+  line_stands Event.Tree small on h = tree_event kind t old new m a sound stands (on (λ k is. absurd (cc))) tells h
+  line_stands Event.Save small on h = save_event kind t old new m a sound stands (on (λ k is. absurd (cc))) tells h
+  line_stands Event.Scan small on h = scan_event kind t old new m a sound stands (on (λ k is. absurd (cc))) tells h
+  line_stands (Event.Piece n) small on h = piece_event kind t old new m a sound stands (on (λ k is. absurd (cc))) tells laws inside n h
+  line_stands (Event.Collect k) small on h = collect_event laws old new m sound t k a stands tells h

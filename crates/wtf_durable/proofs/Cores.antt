@@ -40,7 +40,7 @@ pub watched_map : {S : Type 0} (kind : StoreKind S) (t : Span S) (old mid : Core
     → AreSound mid.tables → IsLine kind t old mid e a → old.tables.beside.watched ≡ Some n → IsTrue (is_live old.tables.kv n)
     → metadata_at mid.tables.kv n ≡ metadata_at old.tables.kv n
 watched_map kind t old mid e a n sound then line watched live =
-    let pinned : IsTrue (is_pinned mid.tables.kv n) = watched_pinned mid.tables n then (line_watched kind t old mid e a line ∙ watched) in
+    let pinned : IsTrue (is_pinned mid.tables.kv n) = watched_pinned mid.tables n then (line_watched kind t old mid sound e a line ∙ watched) in
     let was : IsTrue (is_pinned line.answered.tables.kv n) = subst (λ (ps : List ℕ). IsTrue (list_any (nat_eq n) ps)) line.tidied.pins pinned in
     line.tidied.maps n (pinned_live line.answered.tables.kv n was) ∙ (line_moves kind t old line.answered sound a e line.turn).maps n live
 

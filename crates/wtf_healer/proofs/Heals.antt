@@ -46,7 +46,7 @@ use Rattle.wtf_healer.specs.Words.{is_server_in}
 use Rattle.wtf_healer.specs.declared.regions.Healed.{Healed}
 use Rattle.wtf_healer.proofs.Mended.{later_on, mended, region_inside, to_heal, healed_grew}
 use Rattle.wtf_healer.proofs.Mending.{AreMended, inode_aside, mended_live, mended_stands, mended_live_stands, mended_whole}
-use Rattle.wtf_healer.proofs.Pointing.{are_in, rows_inside}
+use Rattle.wtf_image.proofs.Pointing.{are_in, rows_inside}
 use Rattle.wtf_healer.proofs.Inside.{can_heal}
 use Rattle.wtf_healer.proofs.Loads.{same_rows, IsLiveLoad, live_load}
 

@@ -1,8 +1,7 @@
 -- What an image names that was loaded without lost servers can be healed.
-use Rattle.std.proofs.Common.{◌≡◌, ℕ, Bool, ◌+◌, ◌<◌, ◌≤◌, true, false, cond, nat_lt, nat_le, ◌&&◌, ◌||◌, List, [], ◌∷◌, map, Option, None, Some, refl, sym, ap}
-use Rattle.std.proofs.Common.{subst, ◌∙◌}
-use Rattle.std.proofs.Common.{arith, inl, inr}
-use Rattle.std.specs.Prelude.{⊤, ◌==◌}
+use Rattle.std.proofs.Common.{◌≡◌, ℕ, Bool, ◌+◌, ◌<◌, ◌≤◌, true, cond, nat_lt, nat_le, ◌&&◌, ◌||◌, List, [], ◌∷◌, map, Option, None, Some, refl, sym, ap, subst}
+use Rattle.std.proofs.Common.{◌∙◌, arith, inl, inr}
+use Rattle.std.specs.Prelude.{◌==◌}
 use Rattle.std.specs.List.{All, AllByRecursion, list_all, list_any, flat_map}
 use Rattle.std.specs.Option.{option_map, option_or}
 use Rattle.std.specs.FinMap.Entries.{find}
@@ -14,7 +13,6 @@ use Rattle.std.proofs.lemmas.List.Elements.{All-nil, All-cons}
 use Rattle.wtf_base.specs.declared.ids.InodeId.{InodeId}
 use Rattle.wtf_base.specs.declared.pointer.Pointer.{Pointer}
 use Rattle.wtf_base.specs.declared.settings.Settings.{Settings}
-use Rattle.wtf_base.specs.declared.slice.Slice.{Slice}
 use Rattle.wtf_base.specs.declared.slice.Extents.{Extents}
 use Rattle.wtf_base.specs.declared.slice.Extents.TheVariants.{One, Two, Three}
 use Rattle.wtf_base.specs.Extents.{pointers_to}
@@ -29,19 +27,13 @@ use Rattle.wtf_overlay.specs.Origin.{Place}
 use Rattle.wtf_values.specs.Keys.{inode_cmp}
 use Rattle.wtf_values.specs.declared.region.RegionValue.{RegionValue}
 use Rattle.wtf_values.specs.declared.region.Spill.{Spill}
-use Rattle.wtf_values.specs.Names.{NamesOf}
-use Rattle.wtf_values.specs.declared.key.Key.{Key}
-use Rattle.wtf_values.specs.declared.key.Key.TheVariants.{Path, Dir, Inode, Region, Links}
-use Rattle.wtf_values.specs.declared.value.Node.{Node}
-use Rattle.wtf_values.specs.declared.value.Node.TheVariants.{Folder, File}
+use Rattle.wtf_values.specs.declared.key.Key.TheVariants.{Region}
 use Rattle.wtf_values.specs.declared.value.Value.{Value}
 use Rattle.wtf_values.specs.declared.value.Value.TheVariants as value
-use Rattle.wtf_meta.specs.Maps.{Map, metadata_at}
-use Rattle.wtf_meta.specs.Bytes.{PartBytes, EntryBytes, BaseBytes, RegionBytes, ValueBytes, MapBytes, any_slice}
-use Rattle.wtf_image.specs.Rows.{EntryRow, RegionRow, FileRow, ImageRows, part_row, base_row, entry_rows}
-use Rattle.wtf_image.specs.Lookups.{Plain, NodeIs, NamesAre, LastIs, RegionIs, CountIs, plain, plain_region, names_of_node, names_under, node_at, last_at}
-use Rattle.wtf_image.specs.Lookups.{place_cmp}
-use Rattle.wtf_image.specs.Lookups.{region_entry, region_entries, region_at, times_named, count_row, row_at}
+use Rattle.wtf_meta.specs.Maps.{metadata_at}
+use Rattle.wtf_meta.specs.Bytes.{PartBytes, EntryBytes, BaseBytes, RegionBytes, any_slice}
+use Rattle.wtf_image.specs.Rows.{EntryRow, RegionRow, FileRow, part_row, base_row, entry_rows}
+use Rattle.wtf_image.specs.Lookups.{plain, plain_region, place_cmp, region_entry, region_entries, region_at}
 use Rattle.wtf_image.specs.Rules.{is_good_file, is_good_region, is_last, size_in, is_file_inside_without, is_region_inside_without, is_base_inside_without}
 use Rattle.wtf_image.specs.Rules.{is_part_inside_without, lies_inside_without}
 use Rattle.wtf_image.specs.Rules as rules
@@ -52,6 +44,7 @@ use Rattle.wtf_replica.specs.Downs.{is_down}
 use Rattle.wtf_region.specs.Devs.{stores, is_down_in}
 use Rattle.wtf_image.proofs.SeedLaws.{find-both}
 use Rattle.wtf_image.proofs.SaveMap.{number_same}
+use Rattle.wtf_image.proofs.MapSaid.{map_said}
 use Rattle.wtf_healer.specs.Bases.{is_place_left, inside_left}
 use Rattle.wtf_healer.specs.Steps.{CanHealOver}
 
@@ -158,60 +151,6 @@ module _ {S : Type 0} (kind : StoreKind S) (shelf : List S) (settings : Settings
         entries = entries_left v.list
             (subst (λ es. list_all (λ (r : EntryRow). is_part_inside_without lost settings.servers sizes r.part) es ≡ true) entries both.1);
       }
-
--- ---- what an image says of a key that is no region's
-abbrev NoRegion : Option Plain → Type 0
-NoRegion None = ⊤
-NoRegion (Some (NodeIs n)) = ⊤
-NoRegion (Some (NamesAre names)) = ⊤
-NoRegion (Some (CountIs n)) = ⊤
-NoRegion (Some (LastIs n)) = ⊤
-NoRegion (Some (RegionIs end base entries)) = ⊥
-
-node_none : (o : Option Node) → NoRegion (option_map NodeIs o)
-node_none None = tt
-node_none (Some n) = tt
-
-names_none : (names : NamesOf) (o : Option Node) → NoRegion (names_of_node names o)
-names_none names None = tt
-names_none names (Some Folder) = tt
-names_none names (Some (File i)) = tt
-
-last_none : (o : Option ℕ) → NoRegion (option_map LastIs o)
-last_none None = tt
-last_none (Some n) = tt
-
-count_none : (n : ℕ) → NoRegion (count_row n)
-count_none n = elim (nat_le 2 n) as (λ b. NoRegion (cond b (Some (CountIs n)) None)) [ true ↦ tt | false ↦ tt ]
-
--- P and Q hold of all of a map that an image says, where they do of each region
-module _ (P : List Place → Bool) (Q : Slice → Bool) where
-  no_region : (v : Option Value) (o : Option Plain) → option_map plain v ≡ o → NoRegion o → ValueBytes P Q v
-  no_region None o e h = tt
-  no_region (Some (value.Node n)) o e h = tt
-  no_region (Some (value.Names s)) o e h = tt
-  no_region (Some (value.Count n)) o e h = tt
-  no_region (Some (value.Last n)) o e h = tt
-  no_region (Some (value.Region v)) o e h = absurd (subst NoRegion (sym e) h)
-
-  region_value : (v : Option Value) (o : Option RegionRow) → option_map plain v ≡ option_map plain_region o →
-      ((g : RegionValue) (row : RegionRow) → o ≡ Some row → plain (value.Region g) ≡ plain_region row → RegionBytes P Q g) → ValueBytes P Q v
-  region_value None o e each = tt
-  region_value (Some v) None e each = absurd (cc)
-  region_value (Some (value.Region v)) (Some row) e each = let same : plain (value.Region v) ≡ plain_region row = cc in each v row refl same
-  region_value (Some (value.Node n)) (Some row) e each = tt
-  region_value (Some (value.Names s)) (Some row) e each = tt
-  region_value (Some (value.Count n)) (Some row) e each = tt
-  region_value (Some (value.Last n)) (Some row) e each = tt
-
-  pub map_said : (x : ImageRows) (w : Map) → ((q : Key) → option_map plain (w q) ≡ row_at x q)
-      → ((i : InodeId) (r : ℕ) (v : RegionValue) (row : RegionRow) → region_at x.files i r ≡ Some row → plain (value.Region v) ≡ plain_region row →
-      RegionBytes P Q v) → MapBytes P Q w
-  map_said x w is each (Path p) = no_region (w (Path p)) (row_at x (Path p)) (is (Path p)) (node_none (node_at x.paths p))
-  map_said x w is each (Dir p) = no_region (w (Dir p)) (row_at x (Dir p)) (is (Dir p)) (names_none (names_under p x.paths) (node_at x.paths p))
-  map_said x w is each (Inode i) = no_region (w (Inode i)) (row_at x (Inode i)) (is (Inode i)) (last_none (last_at x.files i))
-  map_said x w is each (Links i) = no_region (w (Links i)) (row_at x (Links i)) (is (Links i)) (count_none (times_named x.paths i))
-  map_said x w is each (Region i r) = region_value (w (Region i r)) (region_at x.files i r) (is (Region i r)) (λ v row at same. each i r v row at same)
 
 -- ---- what was loaded
 

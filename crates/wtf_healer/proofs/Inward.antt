@@ -23,7 +23,7 @@ use Rattle.wtf_values.specs.declared.region.Spill.{Spill}
 use Rattle.wtf_meta.specs.Bytes.{PartBytes, EntryBytes, BaseBytes, RegionBytes, any_slice}
 use Rattle.wtf_healer.specs.Bases.{is_place_left}
 use Rattle.wtf_healer.specs.Sparse.{has_lost, is_sparse_part, is_sparse_base, has_sparse}
-use Rattle.wtf_healer.proofs.Pointing.{is_place_in, are_in}
+use Rattle.wtf_image.proofs.Pointing.{is_place_in, are_in}
 use Rattle.wtf_healer.proofs.Unlost.{are_filed}
 
 -- no file of a store gets shorter

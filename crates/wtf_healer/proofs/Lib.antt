@@ -21,7 +21,6 @@ mod Rereading
 mod Anew
 mod Puts
 mod Mending
-mod Pointing
 mod Inward
 mod Loads
 mod Mended

@@ -47,7 +47,7 @@ use Rattle.wtf_healer.specs.declared.regions.Healed.{Healed}
 use Rattle.wtf_healer.proofs.Anew.{IsUnlost}
 use Rattle.wtf_healer.proofs.Inward.{sizes_grow, filed, list_inward, region_inward}
 use Rattle.wtf_healer.proofs.Mending.{IsAnewPut, AreMended, live_is}
-use Rattle.wtf_healer.proofs.Pointing.{are_in}
+use Rattle.wtf_image.proofs.Pointing.{are_in}
 use Rattle.wtf_healer.proofs.Puts.{keys_of, put_at}
 use Rattle.wtf_healer.proofs.Rereading.{IsReadAs, under_is}
 use Rattle.wtf_healer.proofs.Restoring.{down_same, kept_later}

@@ -15,3 +15,5 @@ pub mod StandsLaws
 pub mod PlainLaws
 pub mod Said
 pub mod LostLaws
+pub mod Pointing
+pub mod MapSaid

@@ -1,6 +1,7 @@
 -- Seeds of a store, one after another.
 use Rattle.std.proofs.Common.{◌≡◌, ℕ, zero, suc, ◌+◌, ◌<◌, Bool, true, false, cond, ◌&&◌, List, [], ◌∷◌, ◌++◌, length, take, map, get_or, Option, None, Some}
 use Rattle.std.proofs.Common.{refl, sym, ap, subst, ◌∙◌, arith, ⊎_elim}
+use Rattle.std.specs.Prelude.{Result, Ok, Err, OnOk}
 use Rattle.std.specs.List.{flat_map}
 use Rattle.std.specs.Option.{option_or}
 use Rattle.std.specs.BTreeMap.{is_at}
@@ -43,6 +44,11 @@ untied q k v h = ⊎_elim
     (λ tie. let is : Some v ≡ None = sym (ap (λ b. cond b (Some v) None) tie) ∙ h in absurd (cc))
     (λ off. at_none k q (λ same. both_ways _ off (subst (λ x. is_at (key_cmp q) x ≡ true) (sym same) (at_itself q))))
     (cases_Bool (is_at (key_cmp q) k))
+
+-- what follows of an outcome that is no error
+pub on_ok : {A E P Q : Type 0} (r : Result A E) → (P → Q) → OnOk r P → OnOk r Q
+on_ok (Ok a) f h = f h
+on_ok (Err e) f h = h
 
 -- one key with its first value
 pub adds_one : (old new : S) (k : Key) (v : Value) → new.number ≡ old.number → new.pins ≡ []

@@ -1,12 +1,6 @@
-use Rattle.std.proofs.Common.{◌≡◌, [], None, Some, sym, ap, ◌∙◌, ◌++◌, subst, inl, inr}
-use Rattle.wtf_values.specs.declared.value.Node.TheVariants.{Folder, File}
-use Rattle.wtf_meta.specs.FileEdits.{file_of}
-use Rattle.wtf_meta.specs.Maps.{Map, Edits, with, metadata_at, seen}
-use Rattle.wtf_index.specs.Checks.{stands_at}
-use Rattle.wtf_region.specs.Devs.{told_in, RemembersTrue}
-use Rattle.wtf_replay.specs.Views.{untouched}
-use Rattle.wtf_clients.specs.Dumped.{IsShownFile, LacksFile, ReadsBases, dump_bases_of, file_bases}
-use Rattle.wtf_model.specs.declared.answer.Word.TheVariants.{NoEnt, IsDir}
+use Rattle.wtf_clients.proofs.Common.{Folder, file_of, Map, Edits, with, metadata_at, seen, stands_at, told_in, RemembersTrue, untouched, IsShownFile}
+use Rattle.wtf_clients.proofs.Common.{LacksFile, ReadsBases, dump_bases_of, file_bases, NoEnt, IsDir, ◌≡◌, [], None, Some, sym, ap, ◌∙◌, ◌++◌, subst, inl, inr}
+use Rattle.wtf_values.specs.declared.value.Node.TheVariants.{File}
 use Rattle.wtf_clients.proofs.Dumping.{dumps_none, dumps_folder, dumps_file, no_bases}
 use Rattle.wtf_clients.proofs.dump.dump_at.Given.{Over}
 use Rattle.wtf_clients.proofs.dump.dump_at.Goals as goal
@@ -32,45 +26,45 @@ returns-in-Folder-clause-shows g c =
     ∙ (c.in-Some.is ∙ ap Some c.in-Folder.is) in
     dumps_folder dev.settings.region (told_in g.S.SliceStore.kind dev) (RemembersTrue g.S.SliceStore.kind dev) w c.args.p.now there
 
+-- a file stands at the path, and the map at the number is what was seen
+module _ (g : Over) (c : After-dump_file g) where
+  first : c.in-Ok.at ≡ untouched c.args.number
+  first = let e = c.in-Ok.ensures in cc
+
+  file_there : stands_at (metadata_at c.args.kv.now c.args.number) c.args.p.now ≡ Some (File c.in-File.inode)
+  file_there = sym (ap (λ a. stands_at (seen c.args.kv.now a) c.args.p.now) first) ∙ sym c.in-Ok-look_up.ensures.value ∙ (c.in-Some.is ∙ ap Some c.in-File.is)
+
+  map_same : seen c.args.kv.now c.look_up.new.at ≡ metadata_at c.args.kv.now c.args.number
+  map_same =
+      let kv = c.args.kv.now in
+      let at = c.look_up.new.at in
+      let went = c.in-Ok-look_up.ensures.went in
+      let base : at.base ≡ c.args.number = went.base ∙ ap (λ a. a.base) first in
+      let changes : at.changes ≡ [] = went.changes ∙ ap (λ a. a.changes ++ []) first in
+      ap (λ (cs : Edits). with cs (metadata_at kv at.base)) changes ∙ ap (metadata_at kv) base
+
 pub returns-in-Ok-dump_file-clause-shows : goal.returns-in-Ok-dump_file-clause-shows
 returns-in-Ok-dump_file-clause-shows g c =
-    let kv = c.args.kv.now in
+    let here = (goal.at.returns-in-Ok-dump_file-clause-shows g c).After-dump_file in
     let dev = c.args.dev.now in
     let told = told_in g.S.SliceStore.kind dev in
-    let w = metadata_at kv c.args.number in
+    let w = metadata_at c.args.kv.now c.args.number in
     let i = c.in-File.inode in
-    let at = c.look_up.new.at in
-    let went = c.in-Ok-look_up.ensures.went in
-    let first : c.in-Ok.at ≡ untouched c.args.number = let e = c.in-Ok.ensures in cc in
-    let base : at.base ≡ c.args.number = went.base ∙ ap (λ a. a.base) first in
-    let changes : at.changes ≡ [] = went.changes ∙ ap (λ a. a.changes ++ []) first in
-    let same : seen kv at ≡ w = ap (λ (cs : Edits). with cs (metadata_at kv at.base)) changes ∙ ap (metadata_at kv) base in
-    let there : stands_at w c.args.p.now ≡ Some (File i) = sym (ap (λ a. stands_at (seen kv a) c.args.p.now) first) ∙ sym c.in-Ok-look_up.ensures.value
-    ∙ (c.in-Some.is ∙ ap Some c.in-File.is) in
-    dumps_file dev.settings.region told (RemembersTrue g.S.SliceStore.kind dev) w c.args.p.now i c.in-Ok-dump_file.answer there
-    (subst (λ (v : Map). IsShownFile dev.settings.region told (RemembersTrue g.S.SliceStore.kind dev) v i c.in-Ok-dump_file.answer) same
+    dumps_file dev.settings.region told (RemembersTrue g.S.SliceStore.kind dev) w c.args.p.now i c.in-Ok-dump_file.answer (file_there g here)
+    (subst (λ (v : Map). IsShownFile dev.settings.region told (RemembersTrue g.S.SliceStore.kind dev) v i c.in-Ok-dump_file.answer) (map_same g here)
     c.in-Ok-dump_file.ensures.shows)
 
 pub returns-in-Err-dump_file-clause-fault : goal.returns-in-Err-dump_file-clause-fault
 returns-in-Err-dump_file-clause-fault g c =
-    let kv = c.args.kv.now in
-    let dev = c.args.dev.now in
-    let w = metadata_at kv c.args.number in
+    let here = (goal.at.returns-in-Err-dump_file-clause-fault g c).After-dump_file in
     let i = c.in-File.inode in
-    let at = c.look_up.new.at in
-    let went = c.in-Ok-look_up.ensures.went in
-    let first : c.in-Ok.at ≡ untouched c.args.number = let e = c.in-Ok.ensures in cc in
-    let base : at.base ≡ c.args.number = went.base ∙ ap (λ a. a.base) first in
-    let changes : at.changes ≡ [] = went.changes ∙ ap (λ a. a.changes ++ []) first in
-    let same : seen kv at ≡ w = ap (λ (cs : Edits). with cs (metadata_at kv at.base)) changes ∙ ap (metadata_at kv) base in
-    let there : stands_at w c.args.p.now ≡ Some (File i) = sym (ap (λ a. stands_at (seen kv a) c.args.p.now) first) ∙ sym c.in-Ok-look_up.ensures.value
-    ∙ (c.in-Some.is ∙ ap Some c.in-File.is) in
     elim c.in-Err-dump_file.ensures.fault [
       | inl memory ↦ inl memory
       | inr lacks ↦ inr (record {
         inode = i;
-        there = there;
-        file = subst (λ (v : Map). LacksFile g.S.SliceStore.kind dev c.dump_file.new.dev (file_of i v) c.in-Err-dump_file.why) same lacks;
+        there = file_there g here;
+        file = subst (λ (v : Map). LacksFile g.S.SliceStore.kind c.args.dev.now c.dump_file.new.dev (file_of i v) c.in-Err-dump_file.why) (map_same g here)
+            lacks;
       })
     ]
 
@@ -80,29 +74,14 @@ returns-in_default-clause-read g c = no_bases c.args.dev.now (metadata_at c.args
 pub returns-in-Folder-clause-read : goal.returns-in-Folder-clause-read
 returns-in-Folder-clause-read g c = no_bases c.args.dev.now (metadata_at c.args.kv.now c.args.number) c.args.p.now IsDir
 
--- what stands at the path is this file
-file_there : (g : Over) (c : After-dump_file g) → stands_at (metadata_at c.args.kv.now c.args.number) c.args.p.now ≡ Some (File c.in-File.inode)
-file_there g c =
-    let first : c.in-Ok.at ≡ untouched c.args.number = let e = c.in-Ok.ensures in cc in
-    sym (ap (λ a. stands_at (seen c.args.kv.now a) c.args.p.now) first) ∙ sym c.in-Ok-look_up.ensures.value ∙ (c.in-Some.is ∙ ap Some c.in-File.is)
-
 pub returns-in-Ok-dump_file-clause-read : goal.returns-in-Ok-dump_file-clause-read
 returns-in-Ok-dump_file-clause-read g c =
-    let kv = c.args.kv.now in
+    let here = (goal.at.returns-in-Ok-dump_file-clause-read g c).After-dump_file in
     let dev = c.args.dev.now in
     let size = dev.settings.region in
-    let w = metadata_at kv c.args.number in
-    let i = c.in-File.inode in
     let a = c.in-Ok-dump_file.answer in
-    let at = c.look_up.new.at in
-    let went = c.in-Ok-look_up.ensures.went in
-    let first : c.in-Ok.at ≡ untouched c.args.number = let e = c.in-Ok.ensures in cc in
-    let base : at.base ≡ c.args.number = went.base ∙ ap (λ x. x.base) first in
-    let changes : at.changes ≡ [] = went.changes ∙ ap (λ x. x.changes ++ []) first in
-    let same : seen kv at ≡ w = ap (λ (cs : Edits). with cs (metadata_at kv at.base)) changes ∙ ap (metadata_at kv) base in
-    let there = file_there g (goal.at.returns-in-Ok-dump_file-clause-read g c).After-dump_file in
-    subst (λ o. ReadsBases dev c.dump_file.new.dev (dump_bases_of size w o a)) (sym there)
-    (subst (λ (v : Map). ReadsBases dev c.dump_file.new.dev (file_bases size (file_of i v) a)) same c.in-Ok-dump_file.ensures.read)
+    subst (λ o. ReadsBases dev c.dump_file.new.dev (dump_bases_of size (metadata_at c.args.kv.now c.args.number) o a)) (sym (file_there g here))
+    (subst (λ (v : Map). ReadsBases dev c.dump_file.new.dev (file_bases size (file_of c.in-File.inode v) a)) (map_same g here) c.in-Ok-dump_file.ensures.read)
 
 pub returns-in-Ok-dump_file-clause-lists : goal.returns-in-Ok-dump_file-clause-lists
 returns-in-Ok-dump_file-clause-lists g c =

@@ -1,30 +1,8 @@
-use Rattle.std.proofs.Common.{◌≡◌, ℕ, ◌+◌, ◌*◌, min, List, [], refl, sym, ap, ◌∙◌, subst, arith, inl, inr}
-use Rattle.wtf_base.specs.declared.settings.Settings.{Settings}
-use Rattle.wtf_overlay.specs.Origin.{pieces_origin}
-use Rattle.wtf_overlay.specs.declared.part.Piece.{Piece}
-use Rattle.wtf_model.specs.declared.answer.Answer.TheVariants as answer
-use Rattle.wtf_model.specs.declared.limits.TheConstants.{MAX_REGIONS}
-use Rattle.wtf_meta.specs.Lists.{TellLists}
-use Rattle.wtf_meta.specs.Bytes.{PiecesBytes, FileBytes, any_slice}
-use Rattle.wtf_meta.specs.Contents.{is_told, is_listed, lists_in}
-use Rattle.wtf_meta.specs.Maps.{Map, seen}
-use Rattle.wtf_meta.specs.Files.{file_len, file_origin}
-use Rattle.wtf_meta.specs.FileEdits.{file_of}
-use Rattle.wtf_meta.specs.Appends.{length_keys}
-use Rattle.wtf_meta.proofs.Named.{file_bytes}
-use Rattle.wtf_meta.proofs.Telling.{TellLists-before}
-use Rattle.wtf_meta.proofs.Weaker.{file_bytes_stay}
-use Rattle.wtf_region.specs.Apart.{are_apart}
-use Rattle.wtf_region.specs.Devs.{stores, told_in, inside_of, is_down_in, between}
-use Rattle.wtf_region.specs.Reads.{IsFileRead, LacksRegion}
-use Rattle.wtf_region.specs.Showing.{Shown, IsShowFault, pieces_in, AreReadable}
-use Rattle.wtf_region.specs.Bases.{bases_in}
-use Rattle.wtf_region.proofs.InsideLaws.{readable_from}
-use Rattle.wtf_region.proofs.ListReads.{pieces_inside, file_read_later}
-use Rattle.wtf_region.proofs.Recording.{still_seen}
-use Rattle.wtf_region.proofs.ShowLaws.{shown_since}
-use Rattle.wtf_region.proofs.Spans.{goes_on}
-use Rattle.wtf_replay.proofs.Later.{tells_on}
+use Rattle.wtf_clients.proofs.Common.{Settings, pieces_origin, Piece, Answer, MAX_REGIONS, TellLists, PiecesBytes, FileBytes, any_slice, is_told, is_listed}
+use Rattle.wtf_clients.proofs.Common.{lists_in, Map, seen, file_len, file_origin, file_of, length_keys, file_bytes, TellLists-before, file_bytes_stay}
+use Rattle.wtf_clients.proofs.Common.{are_apart, stores, told_in, inside_of, is_down_in, between, IsFileRead, LacksRegion, Shown, IsShowFault, pieces_in}
+use Rattle.wtf_clients.proofs.Common.{AreReadable, bases_in, readable_from, pieces_inside, file_read_later, still_seen, shown_since, goes_on, tells_on, ◌≡◌, ℕ}
+use Rattle.wtf_clients.proofs.Common.{◌+◌, ◌*◌, min, List, [], refl, sym, ap, ◌∙◌, subst, arith, inl, inr}
 use Rattle.wtf_clients.proofs.Dumping.{plans_whole, shows_file}
 use Rattle.wtf_clients.proofs.dump.dump_file.Goals as goal
 
@@ -154,7 +132,7 @@ returns-clause-shows g c cache map bytes body =
     subst (λ (old : List ℕ). Shown later k (λ j. pieces_origin ps (0 + j)) old out) c.new-out.ensures.items
     (subst (λ (qs : List Piece). Shown later k (λ j. pieces_origin qs (0 + j)) c.new-out.result.items out) c.as_slice.ensures.value
     c.in-Ok-show.ensures.shown) in
-    ap answer.Shown c.of.ensures
+    ap Answer.Shown c.of.ensures
     ∙ shows_file told z v ps k bytes out count (omega (arith, low, value)) body.file body.bytes_are
     (plans_whole ps k (file_origin z (lists_in z told) v) (read.reads.plans (lists_in z told) tell))
     (shown_since laws first.each k (λ j. pieces_origin ps (0 + j)) [] out shown)
@@ -164,10 +142,9 @@ returns-then-len-gt-MAX_DUMPED-clause-read g c = record { facts = []; recalls = 
 
 pub returns-clause-read : goal.returns-clause-read
 returns-clause-read g c =
-    let dev = c.args.dev.now in
     let i = c.args.inode in
     let b = seen c.args.kv.now c.args.at.now in
-    let z = dev.settings.region in
+    let z = c.args.dev.now.settings.region in
     let k = c.min-n.result in
     let read = c.in-Ok-pieces.ensures.read in
     let same : seen c.args.kv.now c.file_len.new.at ≡ b = still_seen c.args.kv.now i (length_keys (file_of i b)) c.args.at.now c.file_len.new.at

@@ -1,12 +1,9 @@
-use Rattle.std.proofs.Common.{◌≡◌, ◌+◌, ℕ, nat_eq, count_by, List, take, sym, ap, ◌∙◌, subst, arith, add-one}
-use Rattle.std.proofs.Math.Seq.{take-length}
-use Rattle.wtf_kv.specs.Stores.{times_pinned}
+use Rattle.wtf_clients.proofs.Common.{take-length, times_pinned, ◌≡◌, ◌+◌, ℕ, nat_eq, count_by, List, take, sym, ap, ◌∙◌, subst, arith, add-one}
 use Rattle.wtf_clients.proofs.Pinning.{any_pins, Undone, next_pinned, next_undone}
 use Rattle.wtf_clients.proofs.tables.unpin_all.Goals as goal
 
 pub unpin-requires : goal.unpin-requires
-unpin-requires c =
-    next_pinned c.args.kv.now c.loop-number.kv c.args.numbers.now c.loop-number.number-index (omega arith) c.requires c.loop-number.invariant
+unpin-requires c = next_pinned c.args.kv.now c.loop-number.kv c.args.numbers.now c.loop-number.number-index (omega arith) c.requires c.loop-number.invariant
 
 pub loop-number-preserved : goal.loop-number-preserved
 loop-number-preserved c =

@@ -1,8 +1,4 @@
-use Rattle.std.proofs.Common.{◌≡◌, ◌≤◌, ℕ, cond, refl, ap, ◌∙◌, arith}
-use Rattle.std.proofs.lemmas.Bool.{eq-eqb}
-use Rattle.wtf_kv.specs.Stores.{times_pinned}
-use Rattle.wtf_kv.proofs.PinLaws.{any-count}
-use Rattle.wtf_clients.specs.Sounds.{all_watched}
+use Rattle.wtf_clients.proofs.Common.{eq-eqb, times_pinned, any-count, all_watched, ◌≡◌, ◌≤◌, ℕ, cond, refl, ap, ◌∙◌, arith}
 use Rattle.wtf_clients.proofs.tables.unpin_and_mark.Goals as goal
 
 pub unpin-requires : goal.unpin-requires

@@ -1,11 +1,4 @@
-use Rattle.std.proofs.Common.{◌≡◌, ◌<◌, Some, subst, sym, ap, ◌∙◌}
-use Rattle.std.specs.Option.{option_copied}
-use Rattle.wtf_kv.specs.Order.{IsNextKey, left_from}
-use Rattle.wtf_kv.proofs.KeyLaws.{left_less}
-use Rattle.wtf_values.specs.Keys.{key_cmp, same_key}
-use Rattle.wtf_values.specs.declared.key.Key.{Key}
-use Rattle.wtf_values.specs.declared.key.Key.TheVariants.{Path}
-use Rattle.wtf_values.proofs.KeyLaws.{key_total}
+use Rattle.wtf_core.proofs.Common.{option_copied, IsNextKey, left_from, left_less, key_cmp, same_key, Key, Path, key_total, ◌≡◌, ◌<◌, Some, subst, sym, ap, ◌∙◌}
 use Rattle.wtf_core.proofs.RowsWalk.{Walked, walk_begins, walk_goes_on}
 use Rattle.wtf_core.proofs.tree.rows_now.Goals as goal
 

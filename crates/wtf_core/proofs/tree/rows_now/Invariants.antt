@@ -1,6 +1,4 @@
-use Rattle.std.specs.Option.{option_copied}
-use Rattle.wtf_kv.specs.Order.{left_from}
-use Rattle.wtf_values.specs.Keys.{key_cmp}
+use Rattle.wtf_core.proofs.Common.{option_copied, left_from, key_cmp}
 use Rattle.wtf_core.proofs.RowsWalk.{Walked}
 use Rattle.wtf_core.proofs.tree.rows_now.Given as goal
 

@@ -1,7 +1,5 @@
-use Rattle.std.proofs.Common.{◌≡◌, ◌≤◌, ◌<◌, nat_lt, None, false, is_some, length, sym, ap, ◌∙◌, subst, ⊎_elim, arith}
-use Rattle.std.proofs.lemmas.Bool.{cases_Bool, ltb-true, ltb-false}
-use Rattle.std.proofs.lemmas.List.{get_or_past}
-use Rattle.wtf_clients.specs.Views.{BesideView, of_label}
+use Rattle.wtf_clients.proofs.Common.{cases_Bool, ltb-true, ltb-false, get_or_past, BesideView, of_label, ◌≡◌, ◌≤◌, ◌<◌, nat_lt, None, false, is_some, length}
+use Rattle.wtf_clients.proofs.Common.{sym, ap, ◌∙◌, subst, ⊎_elim, arith}
 use Rattle.wtf_clients.proofs.JobPins.{label_past}
 use Rattle.wtf_clients.proofs.beside.Beside.labels.Goals as goal
 

@@ -1,7 +1,5 @@
-use Rattle.std.proofs.Common.{◌≡◌, ◌≤◌, ◌<◌, ◌&&◌, nat_lt, true, false, is_some, length, sym, ap, ◌∙◌, subst, ⊎_elim, arith}
-use Rattle.std.proofs.lemmas.Bool.{cases_Bool, and_from, ltb-true, ltb-false}
-use Rattle.wtf_clients.specs.Views.{BesideView, of_label, was_job}
-use Rattle.wtf_clients.specs.ScanTurns.{is_old_job}
+use Rattle.wtf_clients.proofs.Common.{cases_Bool, and_from, ltb-true, ltb-false, BesideView, of_label, was_job, is_old_job, ◌≡◌, ◌≤◌, ◌<◌, ◌&&◌, nat_lt, true}
+use Rattle.wtf_clients.proofs.Common.{false, is_some, length, sym, ap, ◌∙◌, subst, ⊎_elim, arith}
 use Rattle.wtf_clients.proofs.JobPins.{label_past}
 use Rattle.wtf_clients.proofs.beside.Beside.lowest_old.Goals as goal
 
@@ -10,10 +8,7 @@ returns-then-self-j c =
     let b : BesideView = c.args.self.now in
     let j = c.loop-j.j in
     let marked : was_job b j ≡ true = subst (λ (e : BesideView). was_job e j ≡ true) c.self.view_is c.if-self-j.true in
-    record {
-      old = and_from (is_some (of_label b.jobs j)) (was_job b j) (sym c.has_job.ensures ∙ c.if-has_job.true) marked;
-      lowest = c.loop-j.invariant;
-    }
+    record { old = and_from (is_some (of_label b.jobs j)) (was_job b j) (sym c.has_job.ensures ∙ c.if-has_job.true) marked; lowest = c.loop-j.invariant }
 
 pub returns : goal.returns
 returns c j = ⊎_elim
@@ -34,5 +29,4 @@ returns c j = ⊎_elim
       scan_tx = c.self.inside.scan_tx;
       scan_jobs = c.self.inside.scan_jobs;
     }) j)
-    (label_past c.self.inside.jobs j (omega (arith, most, jobs)))))
-    (cases_Bool (nat_lt j 8))
+    (label_past c.self.inside.jobs j (omega (arith, most, jobs))))) (cases_Bool (nat_lt j 8))

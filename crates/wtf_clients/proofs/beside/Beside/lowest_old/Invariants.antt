@@ -1,5 +1,4 @@
-use Rattle.std.proofs.Common.{◌≡◌, ◌<◌, ℕ, false}
-use Rattle.wtf_clients.specs.ScanTurns.{is_old_job}
+use Rattle.wtf_clients.proofs.Common.{is_old_job, ◌≡◌, ◌<◌, ℕ, false}
 use Rattle.wtf_clients.proofs.beside.Beside.lowest_old.Given as goal
 
 -- no label before is of a job that was open

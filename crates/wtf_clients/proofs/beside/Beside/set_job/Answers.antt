@@ -1,6 +1,4 @@
-use Rattle.std.proofs.Common.{Some, set, subst, arith}
-use Rattle.wtf_clients.specs.Views.{BesideView}
-use Rattle.wtf_clients.specs.Sounds.{SetsJob}
+use Rattle.wtf_clients.proofs.Common.{BesideView, SetsJob, Some, set, subst, arith}
 use Rattle.wtf_clients.proofs.JobPins.{sets_job}
 use Rattle.wtf_clients.proofs.beside.Beside.set_job.Goals as goal
 

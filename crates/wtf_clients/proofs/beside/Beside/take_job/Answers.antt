@@ -1,7 +1,4 @@
-use Rattle.std.proofs.Common.{Option, None, set, sym, subst, arith}
-use Rattle.wtf_compact.specs.Jobs.{JobView}
-use Rattle.wtf_clients.specs.Views.{BesideView}
-use Rattle.wtf_clients.specs.Sounds.{SetsJob}
+use Rattle.wtf_clients.proofs.Common.{JobView, BesideView, SetsJob, Option, None, set, sym, subst, arith}
 use Rattle.wtf_clients.proofs.JobPins.{sets_job}
 use Rattle.wtf_clients.proofs.beside.Beside.take_job.Goals as goal
 

@@ -1,8 +1,5 @@
-use Rattle.std.proofs.Common.{◌≡◌, ◌∙◌, false, is_some, refl, sym, subst}
-use Rattle.wtf_model.specs.declared.answer.Word.TheVariants.{NoTx}
-use Rattle.wtf_clients.specs.Views.{TablesView, of_client}
-use Rattle.wtf_clients.proofs.Making.{at_none, nothing_there, refused_same}
-use Rattle.wtf_clients.proofs.Soundness.{dropped_sound}
+use Rattle.wtf_clients.proofs.Common.{NoTx, TablesView, of_client, ◌≡◌, ◌∙◌, false, is_some, refl, sym, subst}
+use Rattle.wtf_clients.proofs.{Making.at_none, Making.nothing_there, Making.refused_same, Soundness.dropped_sound, Lives.tables_of}
 use Rattle.wtf_clients.proofs.tables.Tables.abort.Goals as goal
 
 pub returns-then-not-contains_key : goal.returns-then-not-contains_key
@@ -17,7 +14,6 @@ returns-then-not-contains_key c =
 
 pub invariant_of-self : goal.invariant_of-self
 invariant_of-self c =
-    let at = c.self.inside in
-    let old : TablesView = record { kv = at.kv; next_tx = at.next_tx; clients = at.clients.entries; beside = at.beside } in
+    let old = tables_of c.self.inside in
     dropped_sound old c.end.new.kv c.end.new.clients.entries c.args.c c.self.invariant (sym c.contains_key.ensures ∙ c.if-not-contains_key.false)
     c.end.ensures.clients c.end.ensures.kv c.end.ensures.unpinned

@@ -1,17 +1,13 @@
-use Rattle.std.proofs.Common.{◌≡◌, ◌+◌, ◌∙◌, true, None, is_some, nat_eq, refl, sym, subst, MatchOption}
-use Rattle.indexmap.proofs.CallerLemmas.{insert_entry-new}
-use Rattle.wtf_model.specs.declared.answer.Answer.TheVariants as answer
-use Rattle.wtf_model.specs.declared.answer.Word.TheVariants.{InTx}
-use Rattle.wtf_clients.specs.Views.{TablesView, of_client}
-use Rattle.wtf_clients.specs.Turns.{Begins, Refuses}
-use Rattle.wtf_clients.proofs.Making.{at_none, at_there, nothing_there, refused_same, begins}
-use Rattle.wtf_clients.proofs.Soundness.{begins_sound}
+use Rattle.wtf_clients.proofs.Common.{insert_entry-new, Answer, InTx, TablesView, of_client, Begins, Refuses, ◌≡◌, ◌+◌, ◌∙◌, true, None, is_some, nat_eq, refl}
+use Rattle.wtf_clients.proofs.Common.{sym, subst, MatchOption}
+use Rattle.wtf_clients.proofs.{Making.at_none, Making.at_there, Making.nothing_there, Making.refused_same, Making.begins, Soundness.begins_sound}
+use Rattle.wtf_clients.proofs.{Lives.tables_of}
 use Rattle.wtf_clients.proofs.tables.Tables.begin.Goals as goal
 use Rattle.wtf_clients.proofs.tables.Tables.begin.Goals.{After-insert}
 
 -- the tables before it and after it
 abbrev old : After-insert → TablesView
-old c = let at = c.self.inside in record { kv = at.kv; next_tx = at.next_tx; clients = at.clients.entries; beside = at.beside }
+old c = tables_of c.self.inside
 
 abbrev new : After-insert → TablesView
 new c = record { kv = c.begin.new.kv; next_tx = c.self.inside.next_tx + 1; clients = c.insert.new.self.entries; beside = c.self.inside.beside }
@@ -24,8 +20,8 @@ returns-in-Ok-insert-clause-turn c =
     let at = (goal.at.returns-in-Ok-insert-clause-turn c).After-insert in
     let made = c.in-Ok.ensures in
     let put = c.in-Ok-insert.ensures in
-    subst (λ (t : TablesView). MatchOption (of_client t.clients c.args.c) (Begins t (new at) c.args.c (answer.Begun c.number-number.result))
-    (λ x. Refuses t (new at) c.args.c InTx (answer.Begun c.number-number.result))) c.self.view_is
+    subst (λ (t : TablesView). MatchOption (of_client t.clients c.args.c) (Begins t (new at) c.args.c (Answer.Begun c.number-number.result))
+    (λ x. Refuses t (new at) c.args.c InTx (Answer.Begun c.number-number.result))) c.self.view_is
     (at_none (of_client (old at).clients c.args.c) _ _ (none at)
     (begins (old at) c.begin.new.kv c.reserve.new.self.entries c.insert.new.self.entries c.args.c c.number-number.result c.in-Ok.txn (none at)
     c.number-number.ensures.number c.reserve.ensures.entries
@@ -37,7 +33,7 @@ invariant_of-self-in-Ok-insert c =
     let at = (goal.at.invariant_of-self-in-Ok-insert c).After-insert in
     let made = c.in-Ok.ensures in
     let put = c.in-Ok-insert.ensures in
-    begins_sound (old at) (new at) c.args.c (answer.Begun c.number-number.result) c.self.invariant (none at)
+    begins_sound (old at) (new at) c.args.c (Answer.Begun c.number-number.result) c.self.invariant (none at)
     (begins (old at) c.begin.new.kv c.reserve.new.self.entries c.insert.new.self.entries c.args.c c.number-number.result c.in-Ok.txn (none at)
     c.number-number.ensures.number c.reserve.ensures.entries
     (λ gone. put.entries ∙ insert_entry-new nat_eq c.reserve.new.self c.args.c c.in-Ok.txn gone)

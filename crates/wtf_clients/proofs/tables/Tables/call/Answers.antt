@@ -1,57 +1,26 @@
-use Rattle.std.proofs.Common.{◌≡◌, ◌∙◌, None, Some, sym, ap, subst}
-use Rattle.std.specs.Option.{option_copied_mut}
-use Rattle.wtf_model.specs.declared.answer.Answer.TheVariants as answer
-use Rattle.wtf_model.specs.declared.answer.Word.TheVariants.{NoTx}
-use Rattle.wtf_model.specs.declared.event.Event.TheVariants as event
-use Rattle.wtf_model.specs.declared.event.Verb.TheVariants as verb
-use Rattle.wtf_meta.specs.Bytes.{any_slice}
-use Rattle.wtf_region.specs.Devs.{stores}
-use Rattle.wtf_region.specs.Inside.{is_inside}
-use Rattle.wtf_replay.specs.Views.{TxnView}
-use Rattle.wtf_clients.specs.Lines.{line, LineOf}
-use Rattle.wtf_clients.specs.Named.{TablesBytes}
-use Rattle.wtf_clients.specs.Sounds.{Sets}
-use Rattle.wtf_clients.specs.Views.{Clients, TablesView, of_client, without_hand, without_hands}
-use Rattle.std.specs.Prelude.{Ok}
-use Rattle.wtf_clients.proofs.ClientLines.{call_line, call_lost}
-use Rattle.wtf_clients.proofs.Lining.{refused_line}
-use Rattle.wtf_clients.proofs.Lists.{written, lent_alike}
-use Rattle.wtf_clients.proofs.Making.{at_none, refused_same}
-use Rattle.wtf_clients.proofs.Soundness.{called_sound, call_lost_sound}
+use Rattle.wtf_clients.proofs.Common.{option_copied_mut, Verb, Clients, TablesView, of_client, sym, ap, subst, ◌∙◌}
+use Rattle.wtf_clients.proofs.{Lives.AreInside, Lives.tables_of, ClientLines.call_line, ClientLines.call_lost, ClientLines.not_begun, Lining.line_of}
+use Rattle.wtf_clients.proofs.{Lists.Writes, Lists.written, Making.at_none, Soundness.called_sound, Soundness.call_lost_sound}
 use Rattle.wtf_clients.proofs.tables.Tables.call.Given.{Over}
 use Rattle.wtf_clients.proofs.tables.Tables.call.Goals as goal
 use Rattle.wtf_clients.proofs.tables.Tables.call.Goals.{After-call}
 
--- the tables before it
-abbrev old : (g : Over) → After-call g → TablesView
-old g c = let at = c.self.inside in record { kv = at.kv; next_tx = at.next_tx; clients = at.clients.entries; beside = at.beside }
+module _ (g : Over) (c : After-call g) where
+  -- the tables before it, and the clients as the verb left them
+  abbrev old : TablesView
+  old = tables_of c.self.inside
 
--- the transaction of the client, and what the verb left of it
-abbrev txn : (g : Over) → After-call g → TxnView
-txn g c = c.in-Some.txn.now
+  abbrev left : Clients
+  left = (c.get_mut.follows.lender c.call.new.self).entries
 
-abbrev later : (g : Over) → After-call g → TxnView
-later g c = c.call.new.self
+  -- the transaction of the client
+  writes : Writes c.args.c old.clients c.in-Some.txn.now c.call.new.self left
+  writes =
+      written c.args.c c.self.inside.clients (c.get_mut.follows.lender c.call.new.self) c.in-Some.txn.now c.call.new.self
+      (sym c.get_mut.ensures.value ∙ ap option_copied_mut c.in-Some.is) (c.get_mut.follows.holds c.call.new.self)
 
-there : (g : Over) (c : After-call g) → of_client (old g c).clients c.args.c ≡ Some (txn g c)
-there g c = sym c.get_mut.ensures.value ∙ ap option_copied_mut c.in-Some.is
-
-abbrev written_to : (g : Over) → After-call g → Clients
-written_to g c = (c.get_mut.follows.lender (later g c)).entries
-
-sets : (g : Over) (c : After-call g) → Sets c.args.c (Some (later g c)) (old g c).clients (written_to g c)
-sets g c =
-    written c.args.c c.self.inside.clients (c.get_mut.follows.lender (later g c)) (txn g c) (later g c) (there g c) (c.get_mut.follows.holds (later g c))
-
-alike : (g : Over) (c : After-call g) → without_hand (later g c) ≡ without_hand (txn g c) → without_hands (written_to g c) ≡ without_hands (old g c).clients
-alike g c =
-    lent_alike c.args.c c.self.inside.clients (c.get_mut.follows.lender (later g c)) (txn g c) (later g c) (there g c)
-    (c.get_mut.follows.holds (later g c))
-
-inside : (g : Over) (c : After-call g)
-    → TablesBytes (is_inside g.S.SliceStore.kind (stores c.args.dev.now) c.args.dev.now.settings) any_slice (old g c)
-inside g c =
-    subst (TablesBytes (is_inside g.S.SliceStore.kind (stores c.args.dev.now) c.args.dev.now.settings) any_slice) (sym c.self.view_is) c.requires.inside
+  inside : AreInside g.S.SliceStore.kind c.args.dev.now old
+  inside = subst (AreInside g.S.SliceStore.kind c.args.dev.now) (sym c.self.view_is) c.requires.inside
 
 pub call-requires-clause-going : goal.call-requires-clause-going
 call-requires-clause-going g c = (c.self.invariant.each c.args.c c.in-Some.txn.now (sym c.get_mut.ensures.value ∙ ap option_copied_mut c.in-Some.is)).going
@@ -61,59 +30,40 @@ call-requires-clause-fit g c = (c.self.invariant.each c.args.c c.in-Some.txn.now
 
 pub call-requires-clause-inside : goal.call-requires-clause-inside
 call-requires-clause-inside g c =
-    let dev = c.args.dev.now in
-    let named : TablesBytes (is_inside g.S.SliceStore.kind (stores dev) dev.settings) any_slice
-    (record { kv = c.self.inside.kv; next_tx = c.self.inside.next_tx; clients = c.self.inside.clients.entries; beside = c.self.inside.beside }) =
-    subst (TablesBytes (is_inside g.S.SliceStore.kind (stores dev) dev.settings) any_slice) (sym c.self.view_is) c.requires.inside in
-    named.each c.args.c c.in-Some.txn.now (sym c.get_mut.ensures.value ∙ ap option_copied_mut c.in-Some.is)
+    (subst (AreInside g.S.SliceStore.kind c.args.dev.now) (sym c.self.view_is) c.requires.inside).each c.args.c c.in-Some.txn.now
+    (sym c.get_mut.ensures.value ∙ ap option_copied_mut c.in-Some.is)
 
 -- the client has no transaction
 pub returns-in_default : goal.returns-in_default
 returns-in_default g c =
-    let kind = g.S.SliceStore.kind in
-    let laws = g.met.S.SliceStore.laws in
-    let dev = c.args.dev.now in
-    let at = c.self.inside in
-    let before : TablesView = record { kv = at.kv; next_tx = at.next_tx; clients = at.clients.entries; beside = at.beside } in
-    let clients = c.get_mut.follows.lender-at-none.entries in
-    let after : TablesView = record { kv = at.kv; next_tx = at.next_tx; clients = clients; beside = at.beside } in
-    let same : clients ≡ before.clients = ap (λ m. m.entries) c.get_mut.follows.holds-at-none in
-    let none : of_client before.clients c.args.c ≡ None = sym c.get_mut.ensures.value ∙ ap option_copied_mut c.in_default.is in
-    subst (λ (t : TablesView). LineOf (line kind dev dev t after) (event.Client c.args.c (verb.Call c.args.op)) (Ok (answer.Refused NoTx))) c.self.view_is
-    (refused_line laws dev c.requires.dev before after (ap (λ (l : Clients). record before { clients = l }) same) c.self.invariant
-    (subst (TablesBytes (is_inside kind (stores dev) dev.settings) any_slice) (sym c.self.view_is) c.requires.inside)
-    (event.Client c.args.c (verb.Call c.args.op)) NoTx
-    (at_none (of_client before.clients c.args.c) _ _ none (refused_same before clients c.args.c NoTx same)))
+    let before = tables_of c.self.inside in
+    line_of c.self.view_is (not_begun g.met.S.SliceStore.laws c.args.dev.now c.requires.dev before c.self.invariant
+    (subst (AreInside g.S.SliceStore.kind c.args.dev.now) (sym c.self.view_is) c.requires.inside) c.get_mut.follows.lender-at-none.entries
+    (ap (λ m. m.entries) c.get_mut.follows.holds-at-none) c.args.c (Verb.Call c.args.op)
+    (at_none (of_client before.clients c.args.c) _ _ (sym c.get_mut.ensures.value ∙ ap option_copied_mut c.in_default.is)))
 
 pub returns-in-Err : goal.returns-in-Err
 returns-in-Err g c =
     let at = (goal.at.returns-in-Err g c).After-call in
-    subst (λ (t : TablesView). LineOf (line g.S.SliceStore.kind c.args.dev.now c.call.new.dev t (record (old g at) { clients = written_to g at }))
-    (event.Client c.args.c (verb.Call c.args.op))
-    c.answer_to.result) c.self.view_is
+    line_of c.self.view_is
     (call_lost g.met.S.SliceStore.laws c.args.dev.now c.call.new.dev c.requires.dev c.requires.ring (old g at) c.self.invariant (inside g at) c.args.c
-    (txn g at) (later g at) (there g at) (written_to g at) (sets g at) (alike g at) c.args.op c.in-Err.why c.answer_to.result c.answer_to.ensures.answer
-    c.in-Err.ensures.call)
+    c.in-Some.txn.now c.call.new.self (left g at) (writes g at) c.args.op c.in-Err.why c.answer_to.result c.answer_to.ensures.answer c.in-Err.ensures.call)
 
 pub returns : goal.returns
 returns g c =
     let at = (goal.at.returns g c).After-call in
-    subst (λ (t : TablesView). LineOf (line g.S.SliceStore.kind c.args.dev.now c.call.new.dev t (record (old g at) { clients = written_to g at }))
-    (event.Client c.args.c (verb.Call c.args.op))
-    (Ok c.in-Ok.answer)) c.self.view_is
+    line_of c.self.view_is
     (call_line g.met.S.SliceStore.laws c.args.dev.now c.call.new.dev c.requires.dev c.requires.ring (old g at) c.self.invariant (inside g at) c.args.c
-    (txn g at) (later g at) (there g at) (written_to g at) (sets g at) (alike g at) c.args.op c.in-Ok.answer c.in-Ok.ensures.call)
+    c.in-Some.txn.now c.call.new.self (left g at) (writes g at) c.args.op c.in-Ok.answer c.in-Ok.ensures.call)
 
 pub invariant_of-self-in-Err : goal.invariant_of-self-in-Err
 invariant_of-self-in-Err g c =
     let at = (goal.at.invariant_of-self-in-Err g c).After-call in
-    call_lost_sound g.S.SliceStore.kind c.args.dev.now c.call.new.dev (old g at) c.args.c (txn g at) (later g at) c.self.invariant (there g at)
-    (written_to g at) (sets g at)
-    c.args.op c.in-Err.why c.in-Err.ensures.call
+    call_lost_sound g.S.SliceStore.kind c.args.dev.now c.call.new.dev (old g at) c.args.c c.in-Some.txn.now c.call.new.self c.self.invariant (left g at)
+    (writes g at) c.args.op c.in-Err.why c.in-Err.ensures.call
 
 pub invariant_of-self-2 : goal.invariant_of-self-2
 invariant_of-self-2 g c =
     let at = (goal.at.invariant_of-self-2 g c).After-call in
-    called_sound g.S.SliceStore.kind c.args.dev.now c.call.new.dev (old g at) c.args.c (txn g at) (later g at) c.self.invariant (there g at) (written_to g at)
-    (sets g at)
-    c.args.op c.in-Ok.answer c.in-Ok.ensures.call
+    called_sound g.S.SliceStore.kind c.args.dev.now c.call.new.dev (old g at) c.args.c c.in-Some.txn.now c.call.new.self c.self.invariant (left g at)
+    (writes g at) c.args.op c.in-Ok.answer c.in-Ok.ensures.call

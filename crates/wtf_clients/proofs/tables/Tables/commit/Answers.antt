@@ -1,58 +1,27 @@
-use Rattle.std.proofs.Common.{◌≡◌, ◌∙◌, None, Some, refl, sym, ap, subst}
-use Rattle.std.specs.Option.{option_copied_mut}
-use Rattle.wtf_model.specs.declared.answer.Answer.TheVariants as answer
-use Rattle.wtf_model.specs.declared.answer.Word.TheVariants.{NoTx}
-use Rattle.wtf_model.specs.declared.event.Event.TheVariants as event
-use Rattle.wtf_model.specs.declared.event.Verb.TheVariants as verb
-use Rattle.wtf_meta.specs.Bytes.{any_slice}
-use Rattle.wtf_region.specs.Devs.{stores}
-use Rattle.wtf_region.specs.Inside.{is_inside}
-use Rattle.wtf_replay.specs.Views.{TxnView}
-use Rattle.wtf_clients.specs.Lines.{line, LineOf}
-use Rattle.wtf_clients.specs.Named.{TablesBytes}
-use Rattle.wtf_clients.specs.Sounds.{Sets}
-use Rattle.wtf_clients.specs.Views.{Clients, TablesView, of_client, without_hand, without_hands}
-use Rattle.std.specs.Prelude.{Ok}
-use Rattle.wtf_clients.proofs.ClientLines.{commit_line, commit_lost}
-use Rattle.wtf_clients.proofs.Lining.{refused_line}
-use Rattle.wtf_clients.proofs.Lists.{written, lent_alike}
-use Rattle.wtf_clients.proofs.Lives.{now_bytes}
-use Rattle.wtf_clients.proofs.Making.{at_none, refused_same, kept_sound, commit_gone}
-use Rattle.wtf_clients.proofs.Soundness.{ended_up, ends_sound}
+use Rattle.wtf_clients.proofs.Common.{option_copied_mut, Verb, any_slice, stores, is_inside, Clients, TablesView, of_client, refl, sym, ap, subst, ◌∙◌}
+use Rattle.wtf_clients.proofs.{Lives.AreInside, Lives.tables_of, ClientLines.commit_line, ClientLines.commit_lost, ClientLines.not_begun, Lining.line_of}
+use Rattle.wtf_clients.proofs.{Lists.Writes, Lists.written, Lives.now_bytes, Making.at_none, Making.kept_sound, Making.commit_gone, Soundness.ended_up}
+use Rattle.wtf_clients.proofs.{Soundness.ends_sound}
 use Rattle.wtf_clients.proofs.tables.Tables.commit.Given.{Over}
 use Rattle.wtf_clients.proofs.tables.Tables.commit.Goals as goal
-use Rattle.wtf_clients.proofs.tables.Tables.commit.Goals.{After-commit}
+use Rattle.wtf_clients.proofs.tables.Tables.commit.Goals.{After-commit, After-end}
 
--- the tables before it
-abbrev old : (g : Over) → After-commit g → TablesView
-old g c = let at = c.self.inside in record { kv = at.kv; next_tx = at.next_tx; clients = at.clients.entries; beside = at.beside }
+module _ (g : Over) (c : After-commit g) where
+  -- the tables before it, and the clients as the verb left them
+  abbrev old : TablesView
+  old = tables_of c.self.inside
 
--- the transaction of the client, and what the verb left of it
-abbrev txn : (g : Over) → After-commit g → TxnView
-txn g c = c.in-Some.txn.now
+  abbrev left : Clients
+  left = (c.get_mut.follows.lender c.commit.new.self).entries
 
-abbrev later : (g : Over) → After-commit g → TxnView
-later g c = c.commit.new.self
+  -- the transaction of the client
+  writes : Writes c.args.c old.clients c.in-Some.txn.now c.commit.new.self left
+  writes =
+      written c.args.c c.self.inside.clients (c.get_mut.follows.lender c.commit.new.self) c.in-Some.txn.now c.commit.new.self
+      (sym c.get_mut.ensures.value ∙ ap option_copied_mut c.in-Some.is) (c.get_mut.follows.holds c.commit.new.self)
 
-there : (g : Over) (c : After-commit g) → of_client (old g c).clients c.args.c ≡ Some (txn g c)
-there g c = sym c.get_mut.ensures.value ∙ ap option_copied_mut c.in-Some.is
-
-abbrev written_to : (g : Over) → After-commit g → Clients
-written_to g c = (c.get_mut.follows.lender (later g c)).entries
-
-sets : (g : Over) (c : After-commit g) → Sets c.args.c (Some (later g c)) (old g c).clients (written_to g c)
-sets g c =
-    written c.args.c c.self.inside.clients (c.get_mut.follows.lender (later g c)) (txn g c) (later g c) (there g c) (c.get_mut.follows.holds (later g c))
-
-alike : (g : Over) (c : After-commit g) → without_hand (later g c) ≡ without_hand (txn g c) → without_hands (written_to g c) ≡ without_hands (old g c).clients
-alike g c =
-    lent_alike c.args.c c.self.inside.clients (c.get_mut.follows.lender (later g c)) (txn g c) (later g c) (there g c)
-    (c.get_mut.follows.holds (later g c))
-
-inside : (g : Over) (c : After-commit g)
-    → TablesBytes (is_inside g.S.SliceStore.kind (stores c.args.dev.now) c.args.dev.now.settings) any_slice (old g c)
-inside g c =
-    subst (TablesBytes (is_inside g.S.SliceStore.kind (stores c.args.dev.now) c.args.dev.now.settings) any_slice) (sym c.self.view_is) c.requires.inside
+  inside : AreInside g.S.SliceStore.kind c.args.dev.now old
+  inside = subst (AreInside g.S.SliceStore.kind c.args.dev.now) (sym c.self.view_is) c.requires.inside
 
 pub commit-requires-clause-going : goal.commit-requires-clause-going
 commit-requires-clause-going g c = (c.self.invariant.each c.args.c c.in-Some.txn.now (sym c.get_mut.ensures.value ∙ ap option_copied_mut c.in-Some.is)).going
@@ -62,69 +31,57 @@ commit-requires-clause-fit g c = (c.self.invariant.each c.args.c c.in-Some.txn.n
 
 pub commit-requires-clause-inside : goal.commit-requires-clause-inside
 commit-requires-clause-inside g c =
-    let dev = c.args.dev.now in
-    let named : TablesBytes (is_inside g.S.SliceStore.kind (stores dev) dev.settings) any_slice
-    (record { kv = c.self.inside.kv; next_tx = c.self.inside.next_tx; clients = c.self.inside.clients.entries; beside = c.self.inside.beside }) =
-    subst (TablesBytes (is_inside g.S.SliceStore.kind (stores dev) dev.settings) any_slice) (sym c.self.view_is) c.requires.inside in
-    named.each c.args.c c.in-Some.txn.now (sym c.get_mut.ensures.value ∙ ap option_copied_mut c.in-Some.is)
+    (subst (AreInside g.S.SliceStore.kind c.args.dev.now) (sym c.self.view_is) c.requires.inside).each c.args.c c.in-Some.txn.now
+    (sym c.get_mut.ensures.value ∙ ap option_copied_mut c.in-Some.is)
 
 -- the client has no transaction
 pub returns-in_default : goal.returns-in_default
 returns-in_default g c =
-    let kind = g.S.SliceStore.kind in
-    let laws = g.met.S.SliceStore.laws in
-    let dev = c.args.dev.now in
-    let at = c.self.inside in
-    let before : TablesView = record { kv = at.kv; next_tx = at.next_tx; clients = at.clients.entries; beside = at.beside } in
-    let clients = c.get_mut.follows.lender-at-none.entries in
-    let after : TablesView = record { kv = at.kv; next_tx = at.next_tx; clients = clients; beside = at.beside } in
-    let same : clients ≡ before.clients = ap (λ m. m.entries) c.get_mut.follows.holds-at-none in
-    let none : of_client before.clients c.args.c ≡ None = sym c.get_mut.ensures.value ∙ ap option_copied_mut c.in_default.is in
-    subst (λ (t : TablesView). LineOf (line kind dev dev t after) (event.Client c.args.c verb.Commit) (Ok (answer.Refused NoTx))) c.self.view_is
-    (refused_line laws dev c.requires.dev before after (ap (λ (l : Clients). record before { clients = l }) same) c.self.invariant
-    (subst (TablesBytes (is_inside kind (stores dev) dev.settings) any_slice) (sym c.self.view_is) c.requires.inside) (event.Client c.args.c verb.Commit) NoTx
-    (at_none (of_client before.clients c.args.c) _ _ none (refused_same before clients c.args.c NoTx same)))
+    let before = tables_of c.self.inside in
+    line_of c.self.view_is (not_begun g.met.S.SliceStore.laws c.args.dev.now c.requires.dev before c.self.invariant
+    (subst (AreInside g.S.SliceStore.kind c.args.dev.now) (sym c.self.view_is) c.requires.inside) c.get_mut.follows.lender-at-none.entries
+    (ap (λ m. m.entries) c.get_mut.follows.holds-at-none) c.args.c Verb.Commit
+    (at_none (of_client before.clients c.args.c) _ _ (sym c.get_mut.ensures.value ∙ ap option_copied_mut c.in_default.is)))
 
 pub commit-requires-clause-inside_now : goal.commit-requires-clause-inside_now
 commit-requires-clause-inside_now g c =
     let dev = c.args.dev.now in
     now_bytes (is_inside g.S.SliceStore.kind (stores dev) dev.settings) any_slice _
-    (subst (TablesBytes (is_inside g.S.SliceStore.kind (stores dev) dev.settings) any_slice) (sym c.self.view_is) c.requires.inside)
+    (subst (AreInside g.S.SliceStore.kind dev) (sym c.self.view_is) c.requires.inside)
 
 pub returns-in-Err : goal.returns-in-Err
 returns-in-Err g c =
     let at = (goal.at.returns-in-Err g c).After-commit in
-    subst (λ (t : TablesView). LineOf (line g.S.SliceStore.kind c.args.dev.now c.commit.new.dev t
-    (record (old g at) { kv = c.commit.new.kv; clients = written_to g at })) (event.Client c.args.c verb.Commit)
-    c.answer_to.result) c.self.view_is
+    line_of c.self.view_is
     (commit_lost g.met.S.SliceStore.laws c.args.dev.now c.commit.new.dev c.requires.dev c.requires.ring (old g at) c.self.invariant (inside g at) c.args.c
-    (txn g at) (later g at) (there g at) (written_to g at) (sets g at) (alike g at) c.commit.new.kv c.in-Err.why c.answer_to.result
+    c.in-Some.txn.now c.commit.new.self (left g at) (writes g at) c.commit.new.kv c.in-Err.why c.answer_to.result
     c.answer_to.ensures.answer c.in-Err.ensures.commit)
-
-pub returns : goal.returns
-returns g c =
-    let at = (goal.at.returns g c).After-commit in
-    subst (λ (t : TablesView). LineOf (line g.S.SliceStore.kind c.args.dev.now c.commit.new.dev t
-    (record (old g at) { kv = c.end.new.kv; clients = c.end.new.clients.entries })) (event.Client c.args.c verb.Commit)
-    (Ok c.in-Ok.answer)) c.self.view_is
-    (commit_line g.met.S.SliceStore.laws c.args.dev.now c.commit.new.dev c.requires.dev c.requires.ring (old g at) c.self.invariant (inside g at) c.args.c
-    (txn g at) (later g at) (there g at) (written_to g at) (sets g at) (alike g at)
-    (record (old g at) { kv = c.end.new.kv; clients = c.end.new.clients.entries })
-    c.commit.new.kv c.end.ensures.clients refl refl c.end.ensures.kv c.end.ensures.unpinned c.in-Ok.answer c.in-Ok.ensures.commit)
 
 pub invariant_of-self-in-Err : goal.invariant_of-self-in-Err
 invariant_of-self-in-Err g c =
     let at = (goal.at.invariant_of-self-in-Err g c).After-commit in
-    kept_sound (old g at) c.commit.new.kv (written_to g at) c.args.c (txn g at) (later g at) c.self.invariant (there g at) (sets g at)
-    c.in-Err.ensures.commit.err
-    c.in-Err.ensures.commit.maps c.in-Err.ensures.commit.pins c.in-Err.ensures.commit.err_store.0
+    let did = c.in-Err.ensures.commit in
+    kept_sound (old g at) c.commit.new.kv (left g at) c.args.c c.in-Some.txn.now c.commit.new.self c.self.invariant (writes g at) did.err did.maps did.pins
+    did.err_store.0
+
+-- the transaction has gone
+abbrev over : (g : Over) → After-end g → TablesView
+over g c = record (tables_of c.self.inside) { kv = c.end.new.kv; clients = c.end.new.clients.entries }
+
+pub returns : goal.returns
+returns g c =
+    let at = (goal.at.returns g c).After-commit in
+    line_of c.self.view_is
+    (commit_line g.met.S.SliceStore.laws c.args.dev.now c.commit.new.dev c.requires.dev c.requires.ring (old g at) c.self.invariant (inside g at) c.args.c
+    c.in-Some.txn.now c.commit.new.self (left g at) (writes g at) (over g (goal.at.returns g c).After-end) c.commit.new.kv
+    c.end.ensures.clients refl refl c.end.ensures.kv c.end.ensures.unpinned c.in-Ok.answer c.in-Ok.ensures.commit)
 
 pub invariant_of-self-2 : goal.invariant_of-self-2
 invariant_of-self-2 g c =
     let at = (goal.at.invariant_of-self-2 g c).After-commit in
-    ends_sound (old g at) (record (old g at) { kv = c.end.new.kv; clients = c.end.new.clients.entries }) c.commit.new.kv c.args.c (txn g at) c.self.invariant
-    (there g at)
+    let new = over g (goal.at.invariant_of-self-2 g c).After-end in
+    ends_sound (old g at) new c.commit.new.kv c.args.c c.in-Some.txn.now c.self.invariant (writes g at).there
     (ended_up (old g at).kv c.commit.new.kv c.in-Ok.answer c.in-Ok.ensures.commit.ended)
-    (commit_gone g.S.SliceStore.kind c.args.dev.now c.commit.new.dev c.requires.ring (old g at) c.args.c (txn g at) (later g at) (there g at) (written_to g at)
-    (sets g at) (record (old g at) { kv = c.end.new.kv; clients = c.end.new.clients.entries }) c.commit.new.kv c.end.ensures.clients refl refl
-    c.end.ensures.kv c.end.ensures.unpinned c.in-Ok.answer c.in-Ok.ensures.commit)
+    (commit_gone g.S.SliceStore.kind c.args.dev.now c.commit.new.dev c.requires.ring (old g at) c.args.c c.in-Some.txn.now c.commit.new.self
+    (writes g at).there (left g at) (writes g at).sets new c.commit.new.kv c.end.ensures.clients refl refl c.end.ensures.kv c.end.ensures.unpinned
+    c.in-Ok.answer c.in-Ok.ensures.commit)

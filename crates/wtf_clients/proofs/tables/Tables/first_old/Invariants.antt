@@ -1,5 +1,4 @@
-use Rattle.std.proofs.Common.{◌-◌, length}
-use Rattle.wtf_clients.specs.ScanTurns.{SeesUpto}
+use Rattle.wtf_clients.proofs.Common.{SeesUpto, ◌-◌, length}
 use Rattle.wtf_clients.proofs.tables.Tables.first_old.Given as goal
 
 -- the first entries were seen

@@ -1,64 +1,40 @@
-use Rattle.std.proofs.Common.{◌≡◌, ◌∙◌, ℕ, true, Some, IfOk, is_some, true≢false, refl, sym, ap, subst}
-use Rattle.wtf_replica.specs.Downs.{is_down}
-use Rattle.wtf_region.specs.Showing.{OnlyRead}
-use Rattle.wtf_gc.specs.Scans.{DoesParts}
-use Rattle.wtf_model.specs.declared.answer.Answer.TheVariants as answer
-use Rattle.wtf_model.specs.declared.event.Event.TheVariants as event
-use Rattle.wtf_meta.specs.Bytes.{any_slice}
-use Rattle.wtf_region.specs.Devs.{stores, remembered, between}
-use Rattle.wtf_region.specs.Inside.{is_inside}
-use Rattle.wtf_replay.specs.Causes.{fault_answer}
-use Rattle.wtf_clients.specs.Views.{TablesView}
-use Rattle.wtf_clients.specs.Named.{TablesBytes}
-use Rattle.wtf_clients.specs.ScanTurns.{IsPruned, DoesTurn}
-use Rattle.wtf_clients.specs.Asked.{lent_by}
-use Rattle.wtf_clients.specs.Serves.{ServesLine}
-use Rattle.wtf_clients.specs.Telling.{TellsTables, ReadsTold}
-use Rattle.wtf_clients.proofs.Making.{if_ok}
-use Rattle.wtf_clients.proofs.PieceServing.{held_enough, does_names, pruned_sound, piece_serves, piece_fails, piece_failed_told}
-use Rattle.wtf_clients.proofs.Scanning.{pruned_names}
-use Rattle.wtf_clients.specs.Leaving.{LeavesAlone}
-use Rattle.wtf_clients.proofs.Leaving.{leaves_none, leaves_read}
-use Rattle.wtf_clients.proofs.ScanFrames.{does_sound}
+use Rattle.wtf_clients.proofs.Common.{is_down, OnlyRead, DoesParts, Answer, Event, stores, remembered, between, fault_answer, TablesView, IsPruned, DoesTurn}
+use Rattle.wtf_clients.proofs.Common.{lent_by, ServesLine, TellsTables, ReadsTold, LeavesAlone, ◌≡◌, ◌∙◌, ℕ, true, Some, IfOk, is_some, true≢false, refl, sym}
+use Rattle.wtf_clients.proofs.Common.{ap, subst}
+use Rattle.wtf_clients.proofs.{Lives.AreInside, Making.if_ok, PieceServing.held_enough, PieceServing.does_names, PieceServing.pruned_sound}
+use Rattle.wtf_clients.proofs.{PieceServing.piece_serves, PieceServing.piece_fails, PieceServing.piece_failed_told, Scanning.pruned_names, Leaving.leaves_none}
+use Rattle.wtf_clients.proofs.{Leaving.leaves_read, ScanFrames.does_sound, Lives.tables_of}
 use Rattle.wtf_clients.proofs.tables.Tables.piece.Given.{Over}
 use Rattle.wtf_clients.proofs.tables.Tables.piece.Goals as goal
 use Rattle.wtf_clients.proofs.tables.Tables.piece.Goals.{After-do_parts-done}
 
 -- the tables before it
 abbrev old : (g : Over) → After-do_parts-done g → TablesView
-old g c = let at = c.self.inside in record { kv = at.kv; next_tx = at.next_tx; clients = at.clients.entries; beside = at.beside }
+old g c = tables_of c.self.inside
 
 abbrev after : (g : Over) → After-do_parts-done g → TablesView
 after g c = record (old g c) { kv = c.do_parts-done.new.kv; beside = c.do_parts-done.new.self }
 
-inside : (g : Over) (c : After-do_parts-done g)
-    → TablesBytes (is_inside g.S.SliceStore.kind (stores c.args.dev.now) c.args.dev.now.settings) any_slice (old g c)
-inside g c =
-    subst (TablesBytes (is_inside g.S.SliceStore.kind (stores c.args.dev.now) c.args.dev.now.settings) any_slice) (sym c.self.view_is) c.requires.inside
+inside : (g : Over) (c : After-do_parts-done g) → AreInside g.S.SliceStore.kind c.args.dev.now (old g c)
+inside g c = subst (AreInside g.S.SliceStore.kind c.args.dev.now) (sym c.self.view_is) c.requires.inside
 
 -- what the parts ask
 pub do_parts-done-requires-clause-held : goal.do_parts-done-requires-clause-held
-do_parts-done-requires-clause-held g c =
-    let at = c.self.inside in
-    held_enough (record { kv = at.kv; next_tx = at.next_tx; clients = at.clients.entries; beside = at.beside }) c.self.invariant
+do_parts-done-requires-clause-held g c = held_enough (tables_of c.self.inside) c.self.invariant
 
 pub do_parts-done-requires-clause-inside : goal.do_parts-done-requires-clause-inside
-do_parts-done-requires-clause-inside g c =
-    let dev = c.args.dev.now in
-    let at = c.self.inside in
-    let named : TablesBytes (is_inside g.S.SliceStore.kind (stores dev) dev.settings) any_slice
-    (record { kv = at.kv; next_tx = at.next_tx; clients = at.clients.entries; beside = at.beside }) =
-    subst (TablesBytes (is_inside g.S.SliceStore.kind (stores dev) dev.settings) any_slice) (sym c.self.view_is) c.requires.inside in
-    named.live
+do_parts-done-requires-clause-inside g c = (subst (AreInside g.S.SliceStore.kind c.args.dev.now) (sym c.self.view_is) c.requires.inside).live
 
 -- parts leave the stores, and the lists where there is none to read
 leaves : (g : Over) (c : After-do_parts-done g) → is_some c.self.inside.beside.gc.running ≡ true
     → OnlyRead g.S.SliceStore.kind (between c.args.dev.now c.do_parts-done.new.dev)
-    → LeavesAlone g.S.SliceStore.kind (between c.args.dev.now c.do_parts-done.new.dev) (lent_by c.args.dev.now c.do_parts-done.new.dev) (old g c)
-    (event.Piece c.args.parts)
+    → LeavesAlone g.S.SliceStore.kind (between c.args.dev.now c.do_parts-done.new.dev) (lent_by c.args.dev.now c.do_parts-done.new.dev) c.args.self.now
+    (Event.Piece c.args.parts)
 leaves g c runs reads =
-    leaves_read g.S.SliceStore.kind c.args.dev.now c.do_parts-done.new.dev (old g c) (event.Piece c.args.parts) reads
-    (λ none. absurd (true≢false (sym runs ∙ ap is_some none)))
+    subst (λ (t : TablesView). LeavesAlone g.S.SliceStore.kind (between c.args.dev.now c.do_parts-done.new.dev)
+    (lent_by c.args.dev.now c.do_parts-done.new.dev) t (Event.Piece c.args.parts)) c.self.view_is
+    (leaves_read g.S.SliceStore.kind c.args.dev.now c.do_parts-done.new.dev (old g c) (Event.Piece c.args.parts) reads
+    (λ none. absurd (true≢false (sym runs ∙ ap is_some none))))
 
 -- they were done
 does : (g : Over) (c : After-do_parts-done g) (n : ℕ)
@@ -66,11 +42,7 @@ does : (g : Over) (c : After-do_parts-done g) (n : ℕ)
     c.do_parts-done.new.self.gc c.args.parts n
     → DoesTurn g.S.SliceStore.kind c.args.dev.now c.do_parts-done.new.dev (old g c) (after g c) c.args.parts n
 does g c n did =
-    record {
-      does = did;
-      prunes = c.do_parts-done.ensures.prunes;
-      keeps = record { beside = c.do_parts-done.ensures.rest; clients = refl; next_tx = refl };
-    }
+    record { does = did; prunes = c.do_parts-done.ensures.prunes; keeps = record { beside = c.do_parts-done.ensures.rest; clients = refl; next_tx = refl } }
 
 pub returns-then-left-gt0-clause-serves : goal.returns-then-left-gt0-clause-serves
 returns-then-left-gt0-clause-serves g c =
@@ -79,18 +51,14 @@ returns-then-left-gt0-clause-serves g c =
     let dev = c.args.dev.now in
     let new = c.do_parts-done.new.dev in
     let did = c.in-Ok.ensures in
-    subst (λ (t : TablesView). ServesLine kind (between dev new) (lent_by dev new) t (after g at) (event.Piece c.args.parts) (answer.More c.in-Ok.left))
-    c.self.view_is
-    (piece_serves g.met.S.SliceStore.laws dev new did.dev c.requires.dev (old g at) c.self.invariant (inside g at) c.args.parts (after g at)
-    (answer.More c.in-Ok.left) (does_names kind dev new (old g at) (after g at) c.args.parts c.in-Ok.left c.self.invariant (does g at c.in-Ok.left did.does))
+    subst (λ (t : TablesView). ServesLine kind (between dev new) (lent_by dev new) t (after g at) (Event.Piece c.args.parts) (Answer.More c.in-Ok.left))
+    c.self.view_is (piece_serves g.met.S.SliceStore.laws dev new did.dev c.requires.dev (old g at) c.self.invariant (inside g at) c.args.parts (after g at)
+    (Answer.More c.in-Ok.left) (does_names kind dev new (old g at) (after g at) c.args.parts c.in-Ok.left c.self.invariant (does g at c.in-Ok.left did.does))
     did.reads tt)
 
 pub returns-then-left-gt0-clause-leaves : goal.returns-then-left-gt0-clause-leaves
 returns-then-left-gt0-clause-leaves g c =
-    let at = (goal.at.returns-then-left-gt0-clause-leaves g c).After-do_parts-done in
-    subst (λ (t : TablesView). LeavesAlone g.S.SliceStore.kind (between c.args.dev.now c.do_parts-done.new.dev)
-    (lent_by c.args.dev.now c.do_parts-done.new.dev) t (event.Piece c.args.parts)) c.self.view_is
-    (leaves g at (sym c.scans.ensures ∙ c.if-not-scans.false) c.in-Ok.ensures.reads)
+    leaves g (goal.at.returns-then-left-gt0-clause-leaves g c).After-do_parts-done (sym c.scans.ensures ∙ c.if-not-scans.false) c.in-Ok.ensures.reads
 
 pub invariant_of-self : goal.invariant_of-self
 invariant_of-self g c =
@@ -105,16 +73,13 @@ returns-in-Ok-clause-serves g c =
     let dev = c.args.dev.now in
     let new = c.do_parts-done.new.dev in
     let did = c.in-Ok.ensures in
-    subst (λ (t : TablesView). ServesLine kind (between dev new) (lent_by dev new) t (after g at) (event.Piece c.args.parts) answer.Done) c.self.view_is
-    (piece_serves g.met.S.SliceStore.laws dev new did.dev c.requires.dev (old g at) c.self.invariant (inside g at) c.args.parts (after g at) answer.Done
+    subst (λ (t : TablesView). ServesLine kind (between dev new) (lent_by dev new) t (after g at) (Event.Piece c.args.parts) Answer.Done) c.self.view_is
+    (piece_serves g.met.S.SliceStore.laws dev new did.dev c.requires.dev (old g at) c.self.invariant (inside g at) c.args.parts (after g at) Answer.Done
     (does_names kind dev new (old g at) (after g at) c.args.parts c.in-Ok.left c.self.invariant (does g at c.in-Ok.left did.does)) did.reads tt)
 
 pub returns-in-Ok-clause-leaves : goal.returns-in-Ok-clause-leaves
 returns-in-Ok-clause-leaves g c =
-    let at = (goal.at.returns-in-Ok-clause-leaves g c).After-do_parts-done in
-    subst (λ (t : TablesView). LeavesAlone g.S.SliceStore.kind (between c.args.dev.now c.do_parts-done.new.dev)
-    (lent_by c.args.dev.now c.do_parts-done.new.dev) t (event.Piece c.args.parts)) c.self.view_is
-    (leaves g at (sym c.scans.ensures ∙ c.if-not-scans.false) c.in-Ok.ensures.reads)
+    leaves g (goal.at.returns-in-Ok-clause-leaves g c).After-do_parts-done (sym c.scans.ensures ∙ c.if-not-scans.false) c.in-Ok.ensures.reads
 
 pub invariant_of-self-in-Ok : goal.invariant_of-self-in-Ok
 invariant_of-self-in-Ok g c =
@@ -135,7 +100,7 @@ returns-in-Err-clause-serves g c =
     let did = c.in-Err.ensures in
     let why = c.in-Err.why in
     subst (λ (t : TablesView). IfOk c.answer_to.result
-    (ServesLine g.S.SliceStore.kind (between dev new) (lent_by dev new) t (after g at) (event.Piece c.args.parts))) c.self.view_is
+    (ServesLine g.S.SliceStore.kind (between dev new) (lent_by dev new) t (after g at) (Event.Piece c.args.parts))) c.self.view_is
     (if_ok c.answer_to.result (λ a. fault_answer why ≡ Some a) _ c.answer_to.ensures.answer
     (λ a is. piece_fails g.met.S.SliceStore.laws dev new did.dev c.requires.dev (old g at) c.self.invariant (inside g at) c.args.parts (after g at)
     (pruned_names (old g at) (after g at) (pruned g at did.pins did.same) c.self.invariant)
@@ -157,15 +122,12 @@ returns-in-Err-clause-unread g c =
 
 pub returns-in-Err-clause-leaves : goal.returns-in-Err-clause-leaves
 returns-in-Err-clause-leaves g c =
-    let at = (goal.at.returns-in-Err-clause-leaves g c).After-do_parts-done in
-    subst (λ (t : TablesView). LeavesAlone g.S.SliceStore.kind (between c.args.dev.now c.do_parts-done.new.dev)
-    (lent_by c.args.dev.now c.do_parts-done.new.dev) t (event.Piece c.args.parts)) c.self.view_is
-    (leaves g at (sym c.scans.ensures ∙ c.if-not-scans.false) c.in-Err.ensures.reads)
+    leaves g (goal.at.returns-in-Err-clause-leaves g c).After-do_parts-done (sym c.scans.ensures ∙ c.if-not-scans.false) c.in-Err.ensures.reads
 
 pub returns-then-not-scans-clause-leaves : goal.returns-then-not-scans-clause-leaves
 returns-then-not-scans-clause-leaves g c =
     let dev = c.args.dev.now in
-    leaves_none g.S.SliceStore.kind (is_down dev.replicas.now) (stores dev) dev.settings (remembered dev) c.args.self.now (event.Piece c.args.parts)
+    leaves_none g.S.SliceStore.kind (is_down dev.replicas.now) (stores dev) dev.settings (remembered dev) c.args.self.now (Event.Piece c.args.parts)
 
 pub invariant_of-self-in-Err : goal.invariant_of-self-in-Err
 invariant_of-self-in-Err g c =

@@ -1,16 +1,6 @@
-use Rattle.std.proofs.Common.{◌≡◌, ◌<◌, ℕ, List, [], ◌∷◌, Some, sym, ap, ◌∙◌, subst, inl, inr}
-use Rattle.wtf_base.specs.declared.settings.Settings.{Settings}
-use Rattle.wtf_clients.specs.Saves.{with_image, only_image, Saves}
-use Rattle.wtf_dev.specs.Counts.{Rose}
-use Rattle.wtf_replica.specs.Downs.{is_down, during}
-use Rattle.wtf_model.specs.declared.answer.Answer.TheVariants as answer
-use Rattle.wtf_model.specs.declared.event.Event.TheVariants as event
-use Rattle.wtf_clients.specs.Outcomes.{SomeOut}
-use Rattle.wtf_clients.specs.Saves.{AreUp}
-use Rattle.wtf_clients.proofs.SaveServing.{save_serves}
-use Rattle.wtf_clients.proofs.Images.{kept_enough}
-use Rattle.wtf_clients.proofs.Leaving.{leaves_none, save_leaves}
-use Rattle.wtf_clients.proofs.Pinning.{saves_then, saves_enough}
+use Rattle.wtf_clients.proofs.Common.{Settings, with_image, only_image, Saves, Rose, is_down, during, Answer, Event, SomeOut, AreUp, ◌≡◌, ◌<◌, ℕ, List, [], ◌∷◌}
+use Rattle.wtf_clients.proofs.Common.{Some, sym, ap, ◌∙◌, subst, inl, inr}
+use Rattle.wtf_clients.proofs.{SaveServing.save_serves, Images.kept_enough, Leaving.leaves_none, Leaving.save_leaves, Pinning.saves_then, Pinning.saves_enough}
 use Rattle.wtf_clients.proofs.tables.Tables.save.Goals as goal
 
 pub returns-in-Err-sync_all-clause-turn : goal.returns-in-Err-sync_all-clause-turn
@@ -70,8 +60,7 @@ returns-in-Err-sync_all-clause-serves g c =
     save_serves g.met.S.SliceStore.laws (is_down c.args.replicas.now) c.args.shelf.now c.sync_all.new.shelf c.sync_all.ensures.follows
     c.sync_all.ensures.lengths c.args.settings c.requires.shelf
     (AreUp c.args.replicas.now c.args.settings.servers) (Rose (g.K.Keeper.view c.args.keeper.now).faults (g.K.Keeper.view c.args.keeper.now).faults)
-    c.args.self.now c.forget_image.new.self c.number-number.ensures.sound c.requires.inside answer.FaultSave
-    (returns-in-Err-sync_all-clause-turn g c)
+    c.args.self.now c.forget_image.new.self c.number-number.ensures.sound c.requires.inside Answer.FaultSave (returns-in-Err-sync_all-clause-turn g c)
     (inl (subst (λ (s : Settings). SomeOut g.S.SliceStore.kind (during c.args.replicas.now c.args.shelf.now c.sync_all.new.shelf) s.servers) c.requires.settings
     c.in-Err-sync_all.ensures.cause))
 
@@ -80,7 +69,7 @@ returns-in-Err-replace-clause-serves g c =
     save_serves g.met.S.SliceStore.laws (is_down c.args.replicas.now) c.args.shelf.now c.sync_all.new.shelf c.sync_all.ensures.follows
     c.sync_all.ensures.lengths c.args.settings c.requires.shelf
     (AreUp c.args.replicas.now c.args.settings.servers) (Rose (g.K.Keeper.view c.args.keeper.now).faults (g.K.Keeper.view c.replace.new.self).faults)
-    c.args.self.now c.keep_image.new.self c.number-number.ensures.sound c.requires.inside answer.FaultSave
+    c.args.self.now c.keep_image.new.self c.number-number.ensures.sound c.requires.inside Answer.FaultSave
     (inr c.in_default.ensures.ok) (inr c.in-Err-replace.ensures.cause)
 
 pub returns-clause-serves : goal.returns-clause-serves
@@ -88,8 +77,7 @@ returns-clause-serves g c =
     save_serves g.met.S.SliceStore.laws (is_down c.args.replicas.now) c.args.shelf.now c.sync_all.new.shelf c.sync_all.ensures.follows
     c.sync_all.ensures.lengths c.args.settings c.requires.shelf
     (AreUp c.args.replicas.now c.args.settings.servers) (Rose (g.K.Keeper.view c.args.keeper.now).faults (g.K.Keeper.view c.replace.new.self).faults)
-    c.args.self.now c.settle_image.new.self c.number-number.ensures.sound c.requires.inside (answer.Saved c.number-number.result)
-    (returns-clause-turn g c) tt
+    c.args.self.now c.settle_image.new.self c.number-number.ensures.sound c.requires.inside (Answer.Saved c.number-number.result) (returns-clause-turn g c) tt
 
 pub forget_image-requires-clause-last : goal.forget_image-requires-clause-last
 forget_image-requires-clause-last g c =
@@ -106,11 +94,11 @@ settle_image-requires-clause-last g c =
 -- before the first sync the stores are what they were
 pub returns-in-Err-clause-leaves : goal.returns-in-Err-clause-leaves
 returns-in-Err-clause-leaves g c = λ lists.
-    leaves_none g.S.SliceStore.kind (is_down c.args.replicas.now) c.args.shelf.now c.args.settings lists c.args.self.now event.Save
+    leaves_none g.S.SliceStore.kind (is_down c.args.replicas.now) c.args.shelf.now c.args.settings lists c.args.self.now Event.Save
 
 pub returns-in-Err-keep_image-clause-leaves : goal.returns-in-Err-keep_image-clause-leaves
 returns-in-Err-keep_image-clause-leaves g c = λ lists.
-    leaves_none g.S.SliceStore.kind (is_down c.args.replicas.now) c.args.shelf.now c.args.settings lists c.args.self.now event.Save
+    leaves_none g.S.SliceStore.kind (is_down c.args.replicas.now) c.args.shelf.now c.args.settings lists c.args.self.now Event.Save
 
 pub returns-in-Err-sync_all-clause-leaves : goal.returns-in-Err-sync_all-clause-leaves
 returns-in-Err-sync_all-clause-leaves g c = λ lists.

@@ -1,13 +1,12 @@
-use Rattle.std.proofs.Common.{refl, subst}
-use Rattle.wtf_clients.specs.Sounds.{IsTidied}
-use Rattle.wtf_clients.specs.Views.{TablesView}
+use Rattle.wtf_clients.proofs.Common.{IsTidied, TablesView, refl, subst}
 use Rattle.wtf_clients.proofs.Soundness.{tidied_sound}
+use Rattle.wtf_clients.proofs.{Lives.tables_of}
 use Rattle.wtf_clients.proofs.tables.Tables.tidy.Goals as goal
 use Rattle.wtf_clients.proofs.tables.Tables.tidy.Goals.{After-prune_when_due}
 
 -- the tables before it, and behind it
 abbrev old : After-prune_when_due → TablesView
-old c = let at = c.self.inside in record { kv = at.kv; next_tx = at.next_tx; clients = at.clients.entries; beside = at.beside }
+old c = tables_of c.self.inside
 
 abbrev new : After-prune_when_due → TablesView
 new c = record (old c) { kv = c.prune_when_due.new.self }
@@ -15,16 +14,7 @@ new c = record (old c) { kv = c.prune_when_due.new.self }
 tidied : (c : After-prune_when_due) → IsTidied (old c) (new c)
 tidied c =
     let did = c.prune_when_due.ensures in
-    record {
-      number = did.number;
-      pins = did.pins;
-      kept = did.kept;
-      maps = did.maps;
-      versions = did.versions;
-      next_tx = refl;
-      clients = refl;
-      beside = refl;
-    }
+    record { number = did.number; pins = did.pins; kept = did.kept; maps = did.maps; versions = did.versions; next_tx = refl; clients = refl; beside = refl }
 
 pub invariant_of-self : goal.invariant_of-self
 invariant_of-self c = tidied_sound (old c) (new c) c.self.invariant (tidied c)

@@ -1,14 +1,5 @@
-use Rattle.std.proofs.Common.{◌≤◌, Ok, IfOk, true, false, length, refl, sym, subst}
-use Rattle.wtf_dev.specs.Counts.{Rose}
-use Rattle.wtf_replica.specs.Downs.{is_down}
-use Rattle.wtf_replica.specs.Spans.{span}
-use Rattle.wtf_model.specs.declared.event.Event.{Event}
-use Rattle.wtf_model.specs.declared.event.Event.TheVariants as event
-use Rattle.wtf_clients.specs.Keeping.{keeper_span}
-use Rattle.wtf_clients.specs.Serves.{ServesEvent}
-use Rattle.wtf_core.specs.Ended.{LineEnds}
-use Rattle.wtf_core.specs.Named.{IsInside}
-use Rattle.wtf_core.specs.Views.{CoreView, lent_of}
+use Rattle.wtf_core.proofs.Common.{Rose, is_down, span, Event, keeper_span, ServesEvent, LineEnds, IsInside, CoreView, lent_of, ◌≤◌, Ok, IfOk, true, false}
+use Rattle.wtf_core.proofs.Common.{length, refl, sym, subst}
 use Rattle.wtf_core.proofs.Ends.{down_ends, up_ends, server_serves, tree_ends, tree_serves, save_ends}
 use Rattle.wtf_core.proofs.Lent.{if_some, line_serves, line_untouched, of_tables}
 use Rattle.wtf_core.proofs.store.Core.answer.Goals as goal
@@ -31,8 +22,7 @@ returns-in-Up-clause-ends g c =
     let old = c.args.self.now in
     let shelf = c.args.shelf.now in
     subst (λ (e : Event). LineEnds g.S.SliceStore.kind (span (is_down old.replicas) shelf shelf) old c.server-in-Up.new.self e (Ok c.server-in-Up.result))
-    (sym c.in-Up.is)
-    (up_ends g.met.S.SliceStore.laws shelf old c.server-in-Up.new.self c.requires.sound c.requires.inside c.in-Up.k c.server-in-Up.result
+    (sym c.in-Up.is) (up_ends g.met.S.SliceStore.laws shelf old c.server-in-Up.new.self c.requires.sound c.requires.inside c.in-Up.k c.server-in-Up.result
     (Ok c.server-in-Up.result) refl c.server-in-Up.ensures)
 
 pub returns-in-Tree-clause-ends : goal.returns-in-Tree-clause-ends
@@ -44,26 +34,22 @@ returns-in-Tree-clause-ends g c =
 
 pub returns-in-Down-clause-serves : goal.returns-in-Down-clause-serves
 returns-in-Down-clause-serves g c =
-    let kind = g.S.SliceStore.kind in
     let old = c.args.self.now in
     let shelf = c.args.shelf.now in
     let rose = Rose (g.K.Keeper.view c.args.keeper.now).faults (g.K.Keeper.view c.args.keeper.now).faults in
-    subst (λ (e : Event). ServesEvent kind (span (is_down old.replicas) shelf shelf) (lent_of old c.server.new.self) rose
-    (old.tables, c.server.new.self.tables) e
-    c.server.result) (sym c.in-Down.is)
-    (server_serves g.met.S.SliceStore.laws shelf old c.server.new.self c.requires.sound c.requires.inside (event.Down c.in-Down.k) c.in-Down.k true
+    subst (λ (e : Event). ServesEvent g.S.SliceStore.kind (span (is_down old.replicas) shelf shelf) (lent_of old c.server.new.self) rose
+    (old.tables, c.server.new.self.tables) e c.server.result) (sym c.in-Down.is)
+    (server_serves g.met.S.SliceStore.laws shelf old c.server.new.self c.requires.sound c.requires.inside (Event.Down c.in-Down.k) c.in-Down.k true
     c.server.result refl c.server.ensures)
 
 pub returns-in-Up-clause-serves : goal.returns-in-Up-clause-serves
 returns-in-Up-clause-serves g c =
-    let kind = g.S.SliceStore.kind in
     let old = c.args.self.now in
     let shelf = c.args.shelf.now in
     let rose = Rose (g.K.Keeper.view c.args.keeper.now).faults (g.K.Keeper.view c.args.keeper.now).faults in
-    subst (λ (e : Event). ServesEvent kind (span (is_down old.replicas) shelf shelf) (lent_of old c.server-in-Up.new.self) rose
-    (old.tables, c.server-in-Up.new.self.tables) e
-    c.server-in-Up.result) (sym c.in-Up.is)
-    (server_serves g.met.S.SliceStore.laws shelf old c.server-in-Up.new.self c.requires.sound c.requires.inside (event.Up c.in-Up.k) c.in-Up.k false
+    subst (λ (e : Event). ServesEvent g.S.SliceStore.kind (span (is_down old.replicas) shelf shelf) (lent_of old c.server-in-Up.new.self) rose
+    (old.tables, c.server-in-Up.new.self.tables) e c.server-in-Up.result) (sym c.in-Up.is)
+    (server_serves g.met.S.SliceStore.laws shelf old c.server-in-Up.new.self c.requires.sound c.requires.inside (Event.Up c.in-Up.k) c.in-Up.k false
     c.server-in-Up.result refl c.server-in-Up.ensures)
 
 pub returns-in-Tree-clause-serves : goal.returns-in-Tree-clause-serves
@@ -73,14 +59,12 @@ returns-in-Tree-clause-serves g c =
     let shelf = c.args.shelf.now in
     let rose = Rose (g.K.Keeper.view c.args.keeper.now).faults (g.K.Keeper.view c.args.keeper.now).faults in
     subst (λ (e : Event). IfOk c.show.result (ServesEvent kind (span (is_down old.replicas) shelf shelf) (lent_of old old) rose (old.tables, old.tables) e))
-    (sym c.in-Tree.is)
-    (tree_serves g.met.S.SliceStore.laws shelf old c.requires.sound c.requires.inside c.show.result c.show.ensures.tree)
+    (sym c.in-Tree.is) (tree_serves g.met.S.SliceStore.laws shelf old c.requires.sound c.requires.inside c.show.result c.show.ensures.tree)
 
 -- ---- a save
 pub invariant_of-self : goal.invariant_of-self
 invariant_of-self g c =
     let was = c.self.invariant in
-    let did = c.save-saved.ensures in
     record {
       settings_are = was.settings_are;
       replicas_are = was.replicas_are;
@@ -99,9 +83,8 @@ returns-in-Save-clause-ends g c =
     let new : CoreView = record old { tables = c.save-saved.new.self } in
     subst (λ (e : Event). LineEnds kind (span (is_down c.args.self.now.replicas) shelf c.save-saved.new.shelf) c.args.self.now new e c.save-saved.result)
     (sym c.in-Save.is)
-    (subst (λ (core : CoreView). LineEnds kind (span (is_down core.replicas) shelf c.save-saved.new.shelf) core new event.Save c.save-saved.result)
-    c.self.view_is
-    (save_ends g.met.S.SliceStore.laws shelf c.save-saved.new.shelf old c.save-saved.new.self c.self.invariant.tables_are
+    (subst (λ (core : CoreView). LineEnds kind (span (is_down core.replicas) shelf c.save-saved.new.shelf) core new Event.Save c.save-saved.result)
+    c.self.view_is (save_ends g.met.S.SliceStore.laws shelf c.save-saved.new.shelf old c.save-saved.new.self c.self.invariant.tables_are
     (subst (λ (core : CoreView). IsInside kind shelf core) (sym c.self.view_is) c.requires.inside)
     (subst (λ (core : CoreView). core.settings.servers ≤ length shelf) (sym c.self.view_is) c.requires.shelf) c.save-saved.ensures.shelf
     c.save-saved.result c.save-saved.ensures.turn c.save-saved.ensures.err c.save-saved.ensures.unsynced (c.save-saved.ensures.leaves at.cache.lists)))
@@ -116,19 +99,17 @@ returns-in-Save-clause-serves g c =
     subst (λ (e : Event). IfOk c.save-saved.result (ServesEvent kind (span (is_down c.args.self.now.replicas) c.args.shelf.now c.save-saved.new.shelf)
     (lent_of c.args.self.now new) rose (c.args.self.now.tables, c.save-saved.new.self) e)) (sym c.in-Save.is)
     (subst (λ (core : CoreView). IfOk c.save-saved.result (ServesEvent kind (span (is_down core.replicas) c.args.shelf.now c.save-saved.new.shelf)
-    (lent_of core new) rose (core.tables, c.save-saved.new.self) event.Save)) c.self.view_is
+    (lent_of core new) rose (core.tables, c.save-saved.new.self) Event.Save)) c.self.view_is
     (if_some c.save-saved.result c.save-saved.ensures.serves (λ a s. s c.self.inside.cache.lists)))
 
 -- ---- a line of the tables
 pub returns-in_default-clause-serves : goal.returns-in_default-clause-serves
 returns-in_default-clause-serves g c =
-    let kind = g.S.SliceStore.kind in
     let old = c.args.self.now in
     let rose = Rose (g.K.Keeper.view c.args.keeper.now).faults (g.K.Keeper.view c.args.keeper.now).faults in
     if_some c.by_tables.result c.by_tables.ensures.serves
-    (λ a s. line_serves kind (span (is_down old.replicas) c.args.shelf.now c.by_tables.new.shelf) (lent_of old c.by_tables.new.self)
-    rose old.tables c.by_tables.new.self.tables
-    c.args.event a
+    (λ a s. line_serves g.S.SliceStore.kind (span (is_down old.replicas) c.args.shelf.now c.by_tables.new.shelf) (lent_of old c.by_tables.new.self)
+    rose old.tables c.by_tables.new.self.tables c.args.event a
     (of_tables c.args.event (λ k. c.in_default.not-Down k) (λ k. c.in_default.not-Up k) c.in_default.not-Tree c.in_default.not-Save) s)
 
 pub returns-in_default-clause-keeper : goal.returns-in_default-clause-keeper

@@ -1,14 +1,6 @@
-use Rattle.std.proofs.Common.{◌≤◌, List, IfOk, length, sym, subst}
-use Rattle.wtf_replica.specs.Downs.{is_down}
-use Rattle.wtf_replica.specs.Spans.{span}
-use Rattle.wtf_region.specs.Cached.{CacheInside}
-use Rattle.wtf_region.specs.Inside.{is_inside}
-use Rattle.wtf_clients.specs.Serves.{ServesLine}
-use Rattle.wtf_core.specs.Ended.{LineEnds}
-use Rattle.wtf_core.specs.Named.{IsInside}
-use Rattle.wtf_core.specs.Views.{CoreView, lent_of}
-use Rattle.wtf_core.proofs.Lent.{if_some, lent_goes, lent_ends, lent_keeps}
-use Rattle.wtf_core.proofs.Remembering.{sound_dev}
+use Rattle.wtf_core.proofs.Common.{is_down, span, CacheInside, is_inside, ServesLine, LineEnds, IsInside, CoreView, lent_of, ◌≤◌, List, IfOk, length, sym}
+use Rattle.wtf_core.proofs.Common.{subst}
+use Rattle.wtf_core.proofs.{Lent.if_some, Lent.lent_goes, Lent.lent_ends, Lent.lent_keeps, Remembering.sound_dev}
 use Rattle.wtf_core.proofs.store.Core.by_tables.Given.{Over}
 use Rattle.wtf_core.proofs.store.Core.by_tables.Goals as goal
 use Rattle.wtf_core.proofs.store.Core.by_tables.Goals.{After-tables_line-result, After-number-number}
@@ -58,10 +50,8 @@ returns-clause-ends g c =
     subst (λ (s : List g.row.S.Denot). LineEnds kind (span (is_down c.args.self.now.replicas) shelf s) c.args.self.now (left g c) e r)
     (let same = (lent_goes g.met.S.SliceStore.laws c.tables_line-result.ensures c.self.inside.closed c.self.invariant (enough g at) (lists g at)).1.shelf in
     sym (c.shelf-1.given.1 (sym same)))
-    (subst (λ (core : CoreView). LineEnds kind (span (is_down core.replicas) shelf c.tables_line-result.new.dev.shelf.now) core (left g c) e r)
-    c.self.view_is
-    (lent_ends g.met.S.SliceStore.laws c.tables_line-result.ensures c.self.inside.closed c.self.invariant (enough g at) (lists g at)
-    c.requires.asked))
+    (subst (λ (core : CoreView). LineEnds kind (span (is_down core.replicas) shelf c.tables_line-result.new.dev.shelf.now) core (left g c) e r) c.self.view_is
+    (lent_ends g.met.S.SliceStore.laws c.tables_line-result.ensures c.self.inside.closed c.self.invariant (enough g at) (lists g at) c.requires.asked))
 
 pub returns-clause-serves : goal.returns-clause-serves
 returns-clause-serves g c =
@@ -75,5 +65,4 @@ returns-clause-serves g c =
     (let same = (lent_goes g.met.S.SliceStore.laws c.tables_line-result.ensures c.self.inside.closed c.self.invariant (enough g at) (lists g at)).1.shelf in
     sym (c.shelf-1.given.1 (sym same)))
     (subst (λ (core : CoreView). IfOk r (ServesLine kind (span (is_down core.replicas) shelf c.tables_line-result.new.dev.shelf.now) (lent_of core (left g c))
-    core.tables c.tables_line-result.new.tables e)) c.self.view_is
-    (if_some r c.tables_line-result.ensures.line (λ a l. l.serves)))
+    core.tables c.tables_line-result.new.tables e)) c.self.view_is (if_some r c.tables_line-result.ensures.line (λ a l. l.serves)))

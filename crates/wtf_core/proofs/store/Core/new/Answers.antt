@@ -1,7 +1,4 @@
-use Rattle.std.proofs.Common.{sym, subst}
-use Rattle.wtf_region.specs.Cached.{CacheInside}
-use Rattle.wtf_clients.specs.Views.{TablesView}
-use Rattle.wtf_clients.specs.Named.{TablesBytes}
+use Rattle.wtf_core.proofs.Common.{CacheInside, TablesView, TablesBytes, sym, subst}
 use Rattle.wtf_core.proofs.Started.{nothing_in, stands_first, bytes_first}
 use Rattle.wtf_core.proofs.store.Core.new.Goals as goal
 

@@ -1,8 +1,4 @@
-use Rattle.std.proofs.Common.{sym, ◌∙◌, subst}
-use Rattle.std.specs.Prelude.{IsTrue}
-use Rattle.wtf_kv.specs.Stores.{Store, is_pinned}
-use Rattle.wtf_values.specs.declared.key.Key.{Key}
-use Rattle.wtf_values.specs.declared.value.Value.{Value}
+use Rattle.wtf_core.proofs.Common.{IsTrue, Store, is_pinned, Key, Value, sym, ◌∙◌, subst}
 use Rattle.wtf_core.proofs.Watching.{watched_pinned}
 use Rattle.wtf_core.proofs.store.Core.recorded.Goals as goal
 

@@ -1,9 +1,5 @@
-use Rattle.std.proofs.Common.{subst}
-use Rattle.wtf_dev.specs.Each.{EachFollows}
-use Rattle.wtf_replica.specs.Downs.{is_down}
-use Rattle.wtf_replica.specs.Spans.{span}
-use Rattle.wtf_core.proofs.Lent.{either, ok_map}
-use Rattle.wtf_core.proofs.SaveLines.{line_lengths}
+use Rattle.wtf_core.proofs.Common.{EachFollows, is_down, span, subst}
+use Rattle.wtf_core.proofs.{Lent.either, Lent.ok_map, SaveLaws.line_lengths}
 use Rattle.wtf_core.proofs.store.Core.save.Goals as goal
 
 -- a save punches nothing

@@ -1,9 +1,4 @@
-use Rattle.std.proofs.Common.{IfOk, subst}
-use Rattle.wtf_kv.specs.Stores.{Store}
-use Rattle.wtf_values.specs.declared.key.Key.{Key}
-use Rattle.wtf_values.specs.declared.value.Value.{Value}
-use Rattle.wtf_core.specs.Views.{CoreView}
-use Rattle.wtf_core.specs.Turns.{ShowsTree}
+use Rattle.wtf_core.proofs.Common.{Store, Key, Value, CoreView, ShowsTree, IfOk, subst}
 use Rattle.wtf_core.proofs.store.Core.show.Goals as goal
 
 pub returns-clause-shows : goal.returns-clause-shows

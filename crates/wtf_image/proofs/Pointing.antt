@@ -1,12 +1,15 @@
 -- Where each byte that a map names lies inside the stores, so do all pointers of its image.
-use Rattle.std.proofs.Common.{◌≡◌, ℕ, zero, suc, ◌+◌, ◌-◌, ◌<◌, ◌≤◌, Bool, true, nat_lt, nat_le, ◌&&◌, List, [], ◌∷◌, ◌++◌, map, Option, None, Some}
-use Rattle.std.proofs.Common.{refl, sym, subst, ◌∙◌, arith}
+use Rattle.std.proofs.Common.{◌≡◌, ℕ, zero, suc, ◌+◌, ◌-◌, ◌<◌, ◌≤◌, Bool, true, nat_lt, nat_le, ◌&&◌, List, [], ◌∷◌, ◌++◌, map, Option, None, Some, refl, sym}
+use Rattle.std.proofs.Common.{subst, ◌∙◌, arith}
 use Rattle.std.specs.List.{All, AllByRecursion, list_all}
 use Rattle.std.specs.Option.{option_map}
 use Rattle.std.proofs.lemmas.Bool.{and_parts, and_from, ltb-true, le-leb}
 use Rattle.std.proofs.lemmas.List.Elements.{All-head, All-tail}
 use Rattle.wtf_base.specs.declared.ids.InodeId.{InodeId}
 use Rattle.wtf_base.specs.declared.pointer.Pointer.{Pointer}
+use Rattle.wtf_base.specs.declared.slice.Extents.{Extents}
+use Rattle.wtf_base.specs.declared.slice.Extents.TheVariants.{One, Two, Three}
+use Rattle.wtf_base.specs.Extents.{IsSound}
 use Rattle.wtf_base.specs.Slices.{pointers_of, len_of}
 use Rattle.wtf_base.specs.Places.{Place, place_in}
 use Rattle.wtf_base.proofs.Pointers.{pointers-len}
@@ -28,7 +31,6 @@ use Rattle.wtf_image.specs.Shapes.{IsImage}
 use Rattle.wtf_image.specs.Tables.{Shown}
 use Rattle.wtf_image.proofs.SaveFiles.{each_file}
 use Rattle.wtf_image.proofs.SaveTree.{all_from, all_weaker}
-use Rattle.wtf_region.proofs.ListReads.{some_bytes}
 
 -- a place lies on one of so many servers, in one of its eight files, and before the end of that
 abbrev pub is_place_in : ℕ → (ℕ → ℕ → ℕ) → Place → Bool
@@ -99,11 +101,16 @@ module _ (servers : ℕ) (size : ℕ → ℕ → ℕ) where
       and_from (is_part_inside servers size (part_row e.part)) (list_all (λ (r : EntryRow). is_part_inside servers size r.part) (entry_rows es))
       (part_out e.len e.part e.held e.positive (All-head (EntryBytes Inside) e es h)) (entries_out es (All-tail (EntryBytes Inside) e es h))
 
+  has_bytes : (n : ℕ) (e : Extents) → IsSound n e → 0 < n
+  has_bytes n (One a) sound = sound.0
+  has_bytes n (Two a b) sound = sound.0
+  has_bytes n (Three a b c) sound = sound.0
+
   base_out : (base : Option Spill) → BaseBytes Inside any_slice base → is_base_inside servers size (base_row base) ≡ true
   base_out None h = refl
   base_out (Some s) h =
       let n = len_of s.slice in
-      let some = some_bytes s.slice in
+      let some = has_bytes n s.slice.extents s.slice.sound in
       pointers_out n (n - 1) (pointers_of s.slice) (pointers-len s.slice) (omega (arith, some)) (h.0 (n - 1) (omega (arith, some)))
 
   region_out : (r : ℕ) (v : Option Value) (row : RegionRow) → ValueBytes Inside any_slice v → region_now r (option_map plain v) ≡ Some row
