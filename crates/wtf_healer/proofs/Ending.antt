@@ -1,6 +1,6 @@
 -- What a status tells of a run: what it ended with, and what was said of that.
 use Rattle.std.specs.Prelude.{IfOk, IfErr}
-use Rattle.std.proofs.Common.{◌≡◌, ◌≢◌, ℕ, zero, suc, List, [], length, Option, Some, Result, Ok, Err, refl, sym, ap, ◌∙◌, subst, inl, inr}
+use Rattle.std.proofs.Common.{◌≡◌, ◌≢◌, ℕ, zero, suc, List, [], length, Option, Some, Result, Ok, Err, refl, sym, ap, ◌∙◌, subst, arith, inl, inr}
 use Rattle.wtf_base.specs.declared.fault.Fault.{Fault}
 use Rattle.wtf_dev.specs.Counts.{Rose}
 use Rattle.wtf_dev.specs.Store.{StoreKind}
@@ -8,7 +8,7 @@ use Rattle.wtf_image.specs.declared.error.LoadError.{LoadError}
 use Rattle.wtf_image.specs.declared.error.LoadError.TheVariants as error
 use Rattle.wtf_healer.specs.declared.ends.Stop.{Stop}
 use Rattle.wtf_healer.specs.declared.ends.Stop.TheVariants as stop
-use Rattle.wtf_healer.specs.Ends.{RunSpan, SinkSpan, HasHealed, IsEnd, IsUndone, IsToldStop, IsEndTold, IsHealOver}
+use Rattle.wtf_healer.specs.Ends.{RunSpan, SinkSpan, HasHealed, IsEarly, IsEnd, IsUndone, IsToldStop, IsEndTold, IsHealOver, HandsOne}
 use Rattle.wtf_healer.specs.Lines.{done_lines, fault_line, refusal_line}
 use Rattle.wtf_healer.specs.Runs.{IsHealStatus, IsQuiet, IsUnkept, IsUntouched, IsDue, WroteReport, SaysText}
 
@@ -165,7 +165,8 @@ module _ {S O : Type 0} (kind : StoreKind S) (names : Option (List ℕ)) (t : Ru
       where
         due_of : HasHealed kind names t lines → (n : ℕ) × (m : ℕ) × (lines ≡ done_lines n m)
         due_of (ks, image, given, inl none) = (0, 0, none.2)
-        due_of (ks, image, given, inr some) = (length some.1.kept.healed.changes, some.1.kept.healed.bytes, some.1.kept.lines_are)
+        due_of (ks, image, given, inr some) =
+            let made = some.1.kept.whole.made in (length made.healed.changes, made.healed.bytes, made.lines_are)
     wrote_end status (Err why) h = wrote_stop status why h.0 h.1
 
     pub wrote : (status : ℕ) → Over status → WroteReport status text (s.view s.new).taken
@@ -183,3 +184,75 @@ module _ {S O : Type 0} (kind : StoreKind S) (names : Option (List ℕ)) (t : Ru
   unkept status h (inr (inr (inl seven))) = let d : At 7 = subst At seven (at status h) in d.0
   unkept status h (inr (inr (inr (inl eight)))) = let d : At 8 = subst At eight (at status h) in d.0.0.keeper
   unkept status h (inr (inr (inr (inr eleven)))) = let d : At 11 = subst At eleven (at status h) in d.1.cause.cause.1
+
+  -- ---- what the keeper was handed
+  hands_stop : (why : Stop) → IsEnd kind names t why → HandsOne kind names t
+  hands_stop stop.Words end = inl end.0.keeper
+  hands_stop stop.Load end = inl end.0.keeper
+  hands_stop (stop.Refused why) end = inl end.cause.0.keeper
+  hands_stop (stop.Unhealed why) end = inl end.cause.cause.1
+  hands_stop stop.Save end =
+      let stopped = end.cause in
+      let unsaved = stopped.cause in
+      elim unsaved.cause [
+        | inl store ↦ inl store.1
+        | inr keeper ↦ inr (record {
+          ks = end.ks;
+          image = end.image;
+          given = end.given;
+          began = stopped.began;
+          lines = unsaved.lines;
+          whole = unsaved.whole;
+          synced = keeper.0;
+          handed = keeper.1;
+        })
+      ]
+  hands_stop stop.Memory end = inl (memory end)
+
+  hands_end : (status : ℕ) (r : Result (List ℕ) Stop) → IsSo status r → HandsOne kind names t
+  hands_end status (Ok lines) ((ks, image, given, inl none), says) = inl none.1.keeper
+  hands_end status (Ok lines) ((ks, image, given, inr done), says) = inr (record {
+    ks = ks;
+    image = image;
+    given = given;
+    began = done.1.began;
+    lines = lines;
+    whole = done.1.kept.whole;
+    synced = done.1.kept.synced;
+    handed = done.1.kept.handed;
+  })
+  hands_end status (Err why) h = hands_stop why h.0
+
+  pub hands_one : (status : ℕ) → Over status → HandsOne kind names t
+  hands_one status h = hands_end status h.ended h.told
+
+-- ---- where nothing was said meanwhile
+module _ {O : Type 0} (s : SinkSpan O) where
+  touched : (n status : ℕ) → status ≡ n → n ≢ 2 → n ≢ 6 → n ≢ 8 → IsUntouched status → ⊥
+  touched n status is two six eight (inl e) = two (sym is ∙ e)
+  touched n status is two six eight (inr (inl e)) = six (sym is ∙ e)
+  touched n status is two six eight (inr (inr e)) = eight (sym is ∙ e)
+
+  in_time : (text : List ℕ) (wanted status : ℕ) → wanted ≢ 2 → wanted ≢ 6 → wanted ≢ 8 → SaysText text wanted status (s.view s.old) (s.view s.new)
+      → IsUntouched status → ⊥
+  in_time text wanted status two six eight says same = elim says.status_is [
+    | inl is ↦ touched wanted status is two six eight same
+    | inr four ↦ touched 4 status four (λ e. omega (arith, e)) (λ e. omega (arith, e)) (λ e. omega (arith, e)) same
+  ]
+
+  early_stop : (status : ℕ) (why : Stop) → IsToldStop s status why → IsUntouched status → IsEarly why
+  early_stop status stop.Words told same = tt
+  early_stop status stop.Load told same = tt
+  early_stop status (stop.Refused why) told same = tt
+  early_stop status (stop.Unhealed why) (inl none) same =
+      touched 7 status none.0 (λ e. omega (arith, e)) (λ e. omega (arith, e)) (λ e. omega (arith, e)) same
+  early_stop status (stop.Unhealed why) (inr told) same =
+      in_time (fault_line why) 11 status (λ e. omega (arith, e)) (λ e. omega (arith, e)) (λ e. omega (arith, e)) told same
+  early_stop status stop.Save told same = touched 5 status told.0 (λ e. omega (arith, e)) (λ e. omega (arith, e)) (λ e. omega (arith, e)) same
+  early_stop status stop.Memory told same = touched 7 status told.0 (λ e. omega (arith, e)) (λ e. omega (arith, e)) (λ e. omega (arith, e)) same
+
+  pub silent : {V A : Type 0} (items : V → List ℕ) (status : ℕ) (r : Result V Stop) → IfErr r (λ why. IsEarly why → A)
+      → IfOk r (λ v. SaysText (items v) 0 status (s.view s.old) (s.view s.new)) → IfErr r (IsToldStop s status) → IsUntouched status → A
+  silent items status (Ok v) none says nothing same =
+      absurd (in_time (items v) 0 status (λ e. omega (arith, e)) (λ e. omega (arith, e)) (λ e. omega (arith, e)) says same)
+  silent items status (Err why) early nothing told same = early (early_stop status why told same)

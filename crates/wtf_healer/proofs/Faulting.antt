@@ -27,6 +27,7 @@ use Rattle.wtf_region.specs.Showing.{Reading, Gives, IsReadablePart, AreReadable
 use Rattle.wtf_healer.specs.Bases.{inside_left}
 use Rattle.wtf_healer.specs.Restored.{IsEntryFault, IsAnewFault, IsRestoreFault, OnlyStored}
 use Rattle.wtf_healer.specs.Sparse.{is_sparse_part}
+use Rattle.wtf_healer.proofs.Placing.{sparse_same}
 use Rattle.wtf_healer.proofs.Reading.{left_readable}
 use Rattle.wtf_healer.proofs.Restoring.{down_same}
 
@@ -83,7 +84,7 @@ piece_gives reading n m p part old new is len same h = record {
 
 -- ---- longer spans
 
-single : {X : Type 0} (e x : X) → Contains (e ∷ []) x → e ≡ x
+pub single : {X : Type 0} (e x : X) → Contains (e ∷ []) x → e ≡ x
 single e x (zero, below, is) = is
 single e x (suc k, below, is) = absurd (omega (arith, below))
 
@@ -134,7 +135,7 @@ module _ {S : Type 0} {kind : StoreKind S} (laws : KindLaws kind) where
   pub one_fault : (old new : Dev S) (e : Entry) (why : Fault) → is_sparse_part (is_down_in old) old.settings.replicas e.part ≡ true
       → IsAnewFault kind old new e why → IsRestoreFault kind old new (e ∷ []) why
   one_fault old new e (fault.Read k) sparse h = record { entry = e; there = (0, omega arith, refl); sparse = sparse; lacks = h }
-  one_fault old new e fault.Write sparse h = h
+  one_fault old new e fault.Write sparse h = record { entry = e; there = (0, omega arith, refl); sparse = sparse; few = h }
   one_fault old new e fault.Memory sparse h = tt
   one_fault old new e (fault.Punch k) sparse h = absurd h
   one_fault old new e (fault.Damaged k) sparse h = absurd h
@@ -145,11 +146,15 @@ module _ {S : Type 0} {kind : StoreKind S} (laws : KindLaws kind) where
   fault_over old mid new f es all within (fault.Read k) h = record {
     entry = h.entry;
     there = within h.entry h.there;
-    sparse = ap (λ n. is_sparse_part (is_down_in old) n h.entry.part) (sym (ap (λ (st : Settings). st.replicas) f.settings))
-        ∙ ap (λ (d : ℕ → Bool). is_sparse_part d mid.settings.replicas h.entry.part) (sym (down_same laws f)) ∙ h.sparse;
+    sparse = sym (sparse_same f h.entry.part) ∙ h.sparse;
     lacks = lacks_since old mid new f h.entry.part k.0 h.lacks;
   }
-  fault_over old mid new f es all within fault.Write h = write_since old mid new f h
+  fault_over old mid new f es all within fault.Write h = record {
+    entry = h.entry;
+    there = within h.entry h.there;
+    sparse = sym (sparse_same f h.entry.part) ∙ h.sparse;
+    few = write_since old mid new f h.few;
+  }
   fault_over old mid new f es all within fault.Memory h = tt
   fault_over old mid new f es all within (fault.Punch k) h = absurd h
   fault_over old mid new f es all within (fault.Damaged k) h = absurd h

@@ -1,9 +1,10 @@
 -- Where no store failed, a pass over an image of which enough is left does not end with a fault.
 use Rattle.std.proofs.Common.{◌≡◌, ◌≢◌, ◌⊎◌, ℕ, zero, suc, ◌+◌, ◌-◌, ◌<◌, ◌≤◌, ◌&&◌, ◌||◌, Bool, true, false, nat_lt, nat_le, nat_eq, cond, List, [], ◌∷◌}
-use Rattle.std.proofs.Common.{length, get_or, map, Option, None, Some, is_some, refl, sym, ap, ◌∙◌, subst, arith, inl, inr}
+use Rattle.std.proofs.Common.{length, take, get_or, map, Option, None, Some, is_some, refl, sym, ap, ◌∙◌, subst, arith, inl, inr}
 use Rattle.std.specs.Prelude.{not, if◌then◌else◌}
 use Rattle.std.specs.List.{All, Contains, filter, list_all}
 use Rattle.std.proofs.lemmas.Bool.{and_from, or_cases, or_left, or_right, cond-false, lt-ltb, le-leb, eqb-true, false≢true}
+use Rattle.std.proofs.lemmas.List.{length-take, get_or-take}
 use Rattle.std.proofs.lemmas.List.Elements.{All-head, All-tail, All-weaker, All-contains}
 use Rattle.wtf_base.specs.declared.fault.Fault.{Fault}
 use Rattle.wtf_base.specs.declared.fault.Fault.TheVariants as fault
@@ -29,7 +30,7 @@ use Rattle.wtf_replica.specs.Faults.{AreAllOut, AreTooFew}
 use Rattle.wtf_replica.specs.Inside.{size_in}
 use Rattle.wtf_replica.specs.Outs.{HasRisen, IsOut}
 use Rattle.wtf_replica.specs.declared.replicas.Replicas.{Replicas}
-use Rattle.wtf_replica.proofs.Bytes.{told_inside}
+use Rattle.wtf_replica.proofs.Bytes.{byte_at-told, byte_at-within, told_inside}
 use Rattle.wtf_replica.proofs.InsideLaws.{size_in-at}
 use Rattle.wtf_values.specs.declared.key.Key.{Key}
 use Rattle.wtf_values.specs.declared.key.Key.TheVariants.{Region}
@@ -38,7 +39,7 @@ use Rattle.wtf_values.specs.declared.region.Spill.{Spill}
 use Rattle.wtf_meta.specs.Bytes.{EntryBytes, RegionBytes, ValueBytes, MapBytes}
 use Rattle.wtf_meta.specs.Contents.{Told, is_told, is_listed}
 use Rattle.wtf_meta.specs.Maps.{Map, metadata_at}
-use Rattle.wtf_meta.proofs.Telling.{told_byte}
+use Rattle.wtf_meta.proofs.Telling.{TellsOn, told_byte}
 use Rattle.wtf_image.specs.declared.loads.Loaded.{Loaded}
 use Rattle.wtf_image.specs.Rules.{lies_inside_without}
 use Rattle.wtf_region.specs.declared.dev.Dev.{Dev}
@@ -50,7 +51,7 @@ use Rattle.wtf_healer.specs.Ends.{RunSpan, WasStopped}
 use Rattle.wtf_healer.specs.Live.{is_left, HasCopiesLeft, IsLeftPart, AreLeft, IsLeftList, IsLeftBase, IsLiveRegion, IsLiveMap, IsLiveTree}
 use Rattle.wtf_healer.specs.Regions.{HealLacksBase, LacksBytes, HasDamage, IsRegionFault, IsHealFault}
 use Rattle.wtf_healer.specs.Restored.{NoneRose}
-use Rattle.wtf_healer.specs.Runs.{OnlyServersTell}
+use Rattle.wtf_healer.specs.Runs.{IsLiveTreeIn}
 use Rattle.wtf_healer.specs.Spared.{left_of}
 use Rattle.wtf_healer.specs.Words.{is_server_in}
 use Rattle.wtf_healer.specs.declared.ends.Stop.TheVariants as stop
@@ -61,7 +62,7 @@ use Rattle.wtf_healer.proofs.Loads.{IsLiveLoad, live_load}
 use Rattle.wtf_healer.proofs.Mended.{read_as}
 use Rattle.wtf_healer.proofs.Mending.{live_is}
 use Rattle.wtf_healer.proofs.Reading.{fetched_left}
-use Rattle.wtf_healer.proofs.Rereading.{read_under}
+use Rattle.wtf_healer.proofs.Rereading.{read_under, left_later, entries_on, live_later}
 use Rattle.wtf_healer.proofs.Restoring.{copies_of, down_same}
 
 -- ---- how many servers are left
@@ -220,13 +221,14 @@ held_len n p len u is = subst (HasLength n) is len
 
 module _ {S : Type 0} {kind : StoreKind S} (laws : KindLaws kind) (before after : Dev S) (goes : GoesOn kind before after [])
     (none : NoneRose kind (between before after)) (known : (k : ℕ) → is_down_in before k ≡ true → k < before.settings.servers)
-    (within : (p : Place) (byte : ℕ) → told_in kind before p ≡ Some byte → p.server < before.settings.servers)
+    (told : Told) (on : TellsOn told (told_in kind before)) (within : (p : Place) (byte : ℕ) → told p ≡ Some byte → p.server < before.settings.servers)
     (enough : before.settings.replicas ≤ left_of (is_down_in before) before.settings.servers) where
   abbrev b : ℕ
   b = before.settings.region
 
-  abbrev told : Told
-  told = told_in kind before
+  -- what the stores tell: what is told is part of it
+  abbrev all_told : Told
+  all_told = told_in kind before
 
   abbrev lost : ℕ → Bool
   lost = is_down_in before
@@ -261,7 +263,7 @@ module _ {S : Type 0} {kind : StoreKind S} (laws : KindLaws kind) (before after 
       let tells = told_byte told (places_of u i) (bytes i (omega (arith, some))) in
       let all = All-meaning told (places_of u i) tells.0 tells.1 in
       let here : told (place_in i p) ≡ Some tells.0 = All-unmap (λ q. told q ≡ Some tells.0) (place_in i) (pointers_of u) all k d below in
-      let inside = told_inside laws (stores before) (place_in i p) tells.0 here in
+      let inside = told_inside laws (stores before) (place_in i p) tells.0 (on (place_in i p) tells.0 here) in
       let x = element (stores before) p.server.0 inside.0 in
       let at = inside.2 x in
       let size = size_in-at kind (stores before) p.server.0 p.file x inside.0 in
@@ -280,7 +282,7 @@ module _ {S : Type 0} {kind : StoreKind S} (laws : KindLaws kind) (before after 
   no_damage (Some s) under k h bad =
       let whole = h.0 in
       let r : IsLeftList b told lost s.slice whole = h.1 in
-      let was = read_under b told lost s.slice whole r in
+      let was = read_under b all_told lost s.slice whole (left_later b told all_told lost on s.slice whole r) in
       let same : bad.bytes ≡ was.0 = fetched_left laws bad.read bad.whole was.0 was.1 in
       let is : decoded after.settings.region bad.bytes ≡ Some r.list =
       ap (λ (st : Settings). decoded st.region bad.bytes) goes.settings ∙ ap (decoded b) same ∙ was.2 in
@@ -297,15 +299,16 @@ module _ {S : Type 0} {kind : StoreKind S} (laws : KindLaws kind) (before after 
     -- and its sparse entries can be read
     no_bytes : (k : ℕ) → LacksBytes kind before after v k → ⊥
     no_bytes k lacks =
-        let all = short_up b 0 told told lost v u h lacks.under lacks.short (read_as kind before after v.base lacks.under lacks.read) lacks.short_is bytes in
+        let all = short_up b 0 all_told all_told lost v u (live_later b told all_told lost on v u h) lacks.under lacks.short
+        (read_as kind before after v.base lacks.under lacks.read) lacks.short_is (entries_on b told all_told lost on u.list bytes) in
         let entry = lacks.lacks.entry in
-        let one = All-contains (EntryBytes (is_up_told lost told)) lacks.short entry all lacks.lacks.there in
-        let part = lacks.lacks.lacks in not_told lost told entry part.slice part.held one (all_lost part.slice k part.out)
+        let one = All-contains (EntryBytes (is_up_told lost all_told)) lacks.short entry all lacks.lacks.there in
+        let part = lacks.lacks.lacks in not_told lost all_told entry part.slice part.held one (all_lost part.slice k part.out)
 
     no_region_fault : (why : Fault) → why ≢ fault.Memory → IsRegionFault kind before after v why → ⊥
     no_region_fault (fault.Read k) ne f = elim f [ inl base ↦ no_base v.base h.under k.0 h.base_is base | inr lacks ↦ no_bytes k.0 lacks ]
     no_region_fault (fault.Damaged k) ne f = no_damage v.base h.under k.0 h.base_is f
-    no_region_fault fault.Write ne f = no_write f
+    no_region_fault fault.Write ne f = no_write f.lacks.few
     no_region_fault fault.Memory ne f = ne refl
     no_region_fault (fault.Punch k) ne f = f
 
@@ -329,12 +332,25 @@ among_below n (j ∷ ks) all k is = elim (or_cases (nat_eq k j) (is_server_in ks
   | inr later ↦ among_below n ks (All-tail (λ k. k < n) j ks all) k later
 ]
 
--- A run does not end with a fault where no store failed, the image has a tree that is left, and no store past the image's servers
--- tells a byte.
+-- a byte that one of the first stores tells they all tell
+first_byte : {S : Type 0} (kind : StoreKind S) (n : ℕ) (shelf : List S) (p : Place) (byte : ℕ) → byte_at kind (take n shelf) p ≡ Some byte
+    → (p.server < n) × (byte_at kind shelf p ≡ Some byte)
+first_byte kind n shelf p byte is =
+    let below = byte_at-within kind (take n shelf) p byte is in
+    let len = length-take n shelf in
+    let d = element (take n shelf) p.server below in
+    let first : p.server < n = omega (arith, below, len) in
+    let there : p.server < length shelf = omega (arith, below, len) in (
+      first,
+      byte_at-told kind shelf p d there
+          ∙ ap (λ x. (kind.view x).told p.file p.at) (sym (get_or-take n shelf p.server d first)) ∙ sym (byte_at-told kind (take n shelf) p d below) ∙ is,
+    )
+
+-- a run does not end with a fault where no store failed, and the image has a tree that is left in the stores of its servers
 pub no_fault : {S : Type 0} {kind : StoreKind S} → KindLaws kind → (ks bytes : List ℕ) (run : RunSpan S) (why : Fault)
-    → WasStopped kind ks bytes run (stop.Unhealed why) → (t : Tree) → IsLiveTree (byte_at kind run.old) (is_server_in ks) bytes t
-    → OnlyServersTell (byte_at kind run.old) bytes → ((k : ℕ) → HasRisen kind run.old run.new k → ⊥) → ⊥
-no_fault {S = S} {kind = kind} laws ks bytes run why stopped t tree only none =
+    → WasStopped kind ks bytes run (stop.Unhealed why) → (t : Tree) → IsLiveTreeIn kind run.old (is_server_in ks) bytes t
+    → ((k : ℕ) → HasRisen kind run.old run.new k → ⊥) → ⊥
+no_fault {S = S} {kind = kind} laws ks bytes run why stopped t tree none =
     let replicas : Replicas = stopped.began.replicas in
     let l : Loaded = stopped.began.loaded in
     let load = stopped.began.is_loaded.load in
@@ -343,14 +359,16 @@ no_fault {S = S} {kind = kind} laws ks bytes run why stopped t tree only none =
     let before : Dev S = passed.before in
     let after : Dev S = passed.after in
     let lost : ℕ → Bool = is_down_in before in
-    let told : Told = told_in kind before in
+    let n : ℕ = load.rows.header.servers in
+    let told : Told = byte_at kind (take n run.old) in
     let old : stores before ≡ run.old = passed.before_is.stores_are in
     let new : stores after ≡ run.new = passed.after_is.stores_are in
     let settings : before.settings ≡ l.settings = passed.before_is.settings_are in
     let servers : before.settings.servers ≡ l.settings.servers = ap (λ (s : Settings). s.servers) settings in
     let same : lost ≡ is_server_in ks = λ i k. (ap (λ (r : Replicas). is_down r k) passed.before_is.replicas_are ∙ stopped.began.down k) i in
-    let here : IsLiveTree told lost bytes t = subst (λ (f : ℕ → Bool). IsLiveTree told f bytes t) (sym same)
-    (subst (λ sh. IsLiveTree (byte_at kind sh) (is_server_in ks) bytes t) (sym old) tree) in
+    let here : IsLiveTree told lost bytes t = subst (λ (f : ℕ → Bool). IsLiveTree told f bytes t) (sym same) (tree load.rows load.taken.text) in
+    let on : TellsOn told (told_in kind before) = λ p byte tells.
+    subst (λ sh. byte_at kind sh p ≡ Some byte) (sym old) (first_byte kind n run.old p byte tells).1 in
     let live : IsLiveLoad told lost l t = live_load told lost (is_server_in ks) (size_in kind run.old) bytes l t load here in
     let region : l.settings.region ≡ before.settings.region = sym (ap (λ (s : Settings). s.region) settings) in
     let left = subst (λ r. IsLiveMap r told lost (metadata_at l.kv l.kv.number) live.live) region live.is_live in
@@ -362,9 +380,10 @@ no_fault {S = S} {kind = kind} laws ks bytes run why stopped t tree only none =
     let known : (k : ℕ) → lost k ≡ true → k < before.settings.servers = λ k is.
     subst (λ n. k < n) (sym servers) (among_below l.settings.servers ks spared.known k (sym (ap (λ (f : ℕ → Bool). f k) same) ∙ is)) in
     let within : (p : Place) (byte : ℕ) → told p ≡ Some byte → p.server < before.settings.servers = λ p byte tells.
-    let at = only load.rows load.taken.text p byte (subst (λ sh. byte_at kind sh p ≡ Some byte) old tells) in
+    let at = (first_byte kind n run.old p byte tells).0 in
     omega (arith, at, servers, load.settings.servers) in
     let enough : before.settings.replicas ≤ left_of lost before.settings.servers =
     subst (λ (f : ℕ → Bool). before.settings.replicas ≤ left_of f before.settings.servers) (sym same)
     (subst (λ (s : Settings). s.replicas ≤ left_of (is_server_in ks) s.servers) (sym settings) spared.left)
-    in no_heal_fault laws before after passed.goes risen known within enough (metadata_at l.kv l.kv.number) live.live left named why stopped.cause.0 passed.did
+    in no_heal_fault laws before after passed.goes risen known told on within enough (metadata_at l.kv l.kv.number) live.live left named why
+    stopped.cause.0 passed.did

@@ -13,6 +13,7 @@ use Rattle.wtf_replica.proofs.Spans.{each_kept, risen_since, same_lengths-stored
 use Rattle.wtf_values.specs.declared.region.RegionValue.{RegionValue}
 use Rattle.wtf_values.specs.declared.region.Spill.{Spill}
 use Rattle.wtf_meta.specs.Bytes.{EntryBytes}
+use Rattle.wtf_region.specs.declared.cache.RegionKey.{RegionKey}
 use Rattle.wtf_region.specs.declared.dev.Dev.{Dev}
 use Rattle.wtf_region.specs.Devs.{IsSoundDev, GoesOn, stores, is_down_in, told_in, between}
 use Rattle.wtf_region.specs.Showing.{OnlyRead}
@@ -22,6 +23,7 @@ use Rattle.wtf_healer.specs.Restored.{TellUp, AreKept, Grew, AreRestored, IsRest
 use Rattle.wtf_healer.specs.Sparse.{is_to_heal, has_sparse, sparse_bytes}
 use Rattle.wtf_healer.specs.declared.entries.Restored.{Restored}
 use Rattle.wtf_healer.proofs.Faulting.{fault_over}
+use Rattle.wtf_healer.proofs.Placing.{are_made_since}
 use Rattle.wtf_healer.proofs.Restoring.{down_same, tell_up-later, keeps_since, entries_later, grew_none}
 
 -- what was read of a base lies inside the stores
@@ -47,9 +49,9 @@ module _ {S : Type 0} {kind : StoreKind S} (laws : KindLaws kind) where
   kept_since down old mid new f (e ∷ es) [] h = absurd h
 
   -- what was read before a list was restored is of no matter to it
-  pub restored_since : (old mid new : Dev S) → GoesOn kind old mid [] → (es fs : List Entry) (n : ℕ)
-      → AreRestored kind mid new es fs n → AreRestored kind old new es fs n
-  restored_since old mid new f es fs n h =
+  pub restored_since : (old mid new : Dev S) → GoesOn kind old mid [] → (key : RegionKey) (es fs : List Entry) (n : ℕ)
+      → AreRestored kind mid new key es fs n → AreRestored kind old new key es fs n
+  restored_since old mid new f key es fs n h =
       let down = down_same laws f in
       let copies : mid.settings.replicas ≡ old.settings.replicas = ap (λ (st : Settings). st.replicas) f.settings in
       record {
@@ -61,6 +63,7 @@ module _ {S : Type 0} {kind : StoreKind S} (laws : KindLaws kind) where
         within = h.within;
         inside = h.inside;
         bytes = h.bytes ∙ ap (λ (d : ℕ → Bool). sparse_bytes d mid.settings.replicas es) down ∙ ap (λ c. sparse_bytes (is_down_in old) c es) copies;
+        made = are_made_since laws old mid new f key es fs h.made;
       }
 
   -- reads make no store grow
@@ -80,31 +83,44 @@ module _ {S : Type 0} {kind : StoreKind S} (laws : KindLaws kind) where
   read_later old mid new sound g None es h = h
   read_later old mid new sound g (Some s) es h = record { decodes = h.decodes; inside = entries_later laws mid new sound g es h.inside }
 
+  -- whether a region is to be healed stays
+  pub to_heal_since : (old mid : Dev S) → GoesOn kind old mid [] → (under : List Entry) (v : RegionValue)
+      → is_to_heal (is_down_in old) old.settings.replicas under v ≡ is_to_heal (is_down_in mid) mid.settings.replicas under v
+  to_heal_since old mid f under v =
+      ap (λ c. is_to_heal (is_down_in old) c under v) (sym (ap (λ (st : Settings). st.replicas) f.settings))
+      ∙ ap (λ (d : ℕ → Bool). is_to_heal d mid.settings.replicas under v) (sym (down_same laws f))
+
   -- or it was healed
-  pub healed_of : (old mid new : Dev S) → GoesOn kind old mid [] → GoesOn kind mid new [] → (v : RegionValue) (under short : List Entry)
+  pub healed_of : (old mid new : Dev S) → GoesOn kind old mid [] → GoesOn kind mid new [] → (key : RegionKey) (v : RegionValue) (under short : List Entry)
       → IsBaseRead kind old mid v.base under → is_to_heal (is_down_in mid) mid.settings.replicas under v ≡ true → IsCompacted v under short
-      → (made : Restored) → AreRestored kind mid new short made.list made.bytes → IsHealed kind old new v made
-  healed_of old mid new f g v under short read sparse short_is made restored = record {
+      → (made : Restored) → AreRestored kind mid new key short made.list made.bytes → IsHealed kind old new key v made
+  healed_of old mid new f g key v under short read sparse short_is made restored = record {
     under = under;
     read = read_later old mid new f.sound g v.base under read;
-    sparse = ap (λ c. is_to_heal (is_down_in old) c under v) (sym (ap (λ (st : Settings). st.replicas) f.settings))
-        ∙ ap (λ (d : ℕ → Bool). is_to_heal d mid.settings.replicas under v) (sym (down_same laws f)) ∙ sparse;
+    sparse = to_heal_since old mid f under v ∙ sparse;
     short = short;
     short_is = short_is;
-    restored = restored_since old mid new f short made.list made.bytes restored;
+    restored = restored_since old mid new f key short made.list made.bytes restored;
   }
 
   pub restore_fault : (old mid new : Dev S) → GoesOn kind old mid [] → GoesOn kind mid new [] → (v : RegionValue) (under short : List Entry)
-      → IsBaseRead kind old mid v.base under → IsCompacted v under short → (why : Fault) → IsRestoreFault kind mid new short why
-      → IsRegionFault kind old new v why
-  restore_fault old mid new f g v under short read is (fault.Read k) h = inr (record {
+      → IsBaseRead kind old mid v.base under → is_to_heal (is_down_in mid) mid.settings.replicas under v ≡ true → IsCompacted v under short → (why : Fault)
+      → IsRestoreFault kind mid new short why → IsRegionFault kind old new v why
+  restore_fault old mid new f g v under short read sparse is (fault.Read k) h = inr (record {
     under = under;
     read = read_later old mid new f.sound g v.base under read;
     short = short;
     short_is = is;
     lacks = fault_over laws old mid new f short short (λ e there. there) (fault.Read k) h;
   })
-  restore_fault old mid new f g v under short read is fault.Write h = fault_over laws old mid new f short short (λ e there. there) fault.Write h
-  restore_fault old mid new f g v under short read is fault.Memory h = tt
-  restore_fault old mid new f g v under short read is (fault.Punch k) h = absurd h
-  restore_fault old mid new f g v under short read is (fault.Damaged k) h = absurd h
+  restore_fault old mid new f g v under short read sparse is fault.Write h = record {
+    under = under;
+    read = read_later old mid new f.sound g v.base under read;
+    sparse = to_heal_since old mid f under v ∙ sparse;
+    short = short;
+    short_is = is;
+    lacks = fault_over laws old mid new f short short (λ e there. there) fault.Write h;
+  }
+  restore_fault old mid new f g v under short read sparse is fault.Memory h = tt
+  restore_fault old mid new f g v under short read sparse is (fault.Punch k) h = absurd h
+  restore_fault old mid new f g v under short read sparse is (fault.Damaged k) h = absurd h

@@ -1,5 +1,5 @@
 -- A pass that ended well healed the image: what was kept stands for the tree that was left of it.
-use Rattle.std.proofs.Common.{◌≡◌, ℕ, ◌+◌, ◌*◌, ◌<◌, ◌≤◌, ◌^◌, ◌++◌, Bool, true, false, nat_lt, List, [], length, map, Option, Some, sym, ap, ◌∙◌, subst, arith}
+use Rattle.std.proofs.Common.{◌≡◌, ℕ, ◌+◌, ◌*◌, ◌<◌, ◌≤◌, ◌^◌, ◌++◌, Bool, true, false, nat_lt, List, [], length, map, Some, sym, ap, ◌∙◌, subst, arith}
 use Rattle.std.specs.Prelude.{IsSome, if◌then◌else◌}
 use Rattle.std.specs.Option.{option_map}
 use Rattle.wtf_base.specs.declared.ids.InodeId.{InodeId}
@@ -36,11 +36,12 @@ use Rattle.wtf_image.proofs.Said.{loaded_before}
 use Rattle.wtf_image.proofs.StandsLaws.{stands_savable}
 use Rattle.wtf_region.specs.declared.dev.Dev.{Dev}
 use Rattle.wtf_region.specs.Devs.{stores, is_down_in, told_in}
-use Rattle.wtf_healer.specs.Ends.{RunSpan, WasKept, WasHealed}
+use Rattle.wtf_healer.specs.Ends.{RunSpan, SinkSpan, WasWhole, WasHealed}
+use Rattle.wtf_healer.specs.Heals.{Heals}
 use Rattle.wtf_healer.specs.Live.{IsLiveMap, IsLiveTree}
 use Rattle.wtf_healer.specs.Regions.{AreHealed, CanHeal, change_of}
 use Rattle.wtf_healer.specs.Restored.{TellUp}
-use Rattle.wtf_healer.specs.Runs.{SameSettings, IsHealedImage, IsWholeImage, IsWholeRegion, AreToHeal, HasNextNumber, AreTelling, Heals}
+use Rattle.wtf_healer.specs.Runs.{SameSettings, IsHealedImage, IsWholeImage, IsWholeRegion, AreToHeal, HasNextNumber, AreTelling}
 use Rattle.wtf_healer.specs.Steps.{CanHealOver}
 use Rattle.wtf_healer.specs.Words.{is_server_in}
 use Rattle.wtf_healer.specs.declared.regions.Healed.{Healed}
@@ -51,24 +52,24 @@ use Rattle.wtf_healer.proofs.Inside.{can_heal}
 use Rattle.wtf_healer.proofs.Loads.{same_rows, IsLiveLoad, live_load}
 
 module _ {S : Type 0} {kind : StoreKind S} (laws : KindLaws kind) (replicas : Replicas) (l : Loaded) (run : RunSpan S) (lines : List ℕ)
-    (p : WasKept kind replicas l run lines) where
+    (p : WasWhole kind replicas l run lines) where
   abbrev made : Healed
-  made = p.healed
+  made = p.made.healed
 
   abbrev image : List ℕ
   image = p.image
 
   abbrev kv : Store Key Value
-  kv = p.kv
+  kv = p.made.kv
 
   abbrev new : List S
   new = run.new
 
   abbrev before : Dev S
-  before = p.passed.before
+  before = p.made.passed.before
 
   abbrev after : Dev S
-  after = p.passed.after
+  after = p.made.passed.after
 
   abbrev w : Map
   w = metadata_at l.kv l.kv.number
@@ -92,26 +93,26 @@ module _ {S : Type 0} {kind : StoreKind S} (laws : KindLaws kind) (replicas : Re
   later = byte_at kind new
 
   abbrev healed : AreHealed kind before after w made
-  healed = p.passed.did
+  healed = p.made.passed.did
 
   follows : EachFollows kind (stores after) new []
-  follows = subst (λ shelf. EachFollows kind shelf run.new []) (sym p.passed.after_is.stores_are) p.follows
+  follows = subst (λ shelf. EachFollows kind shelf run.new []) (sym p.made.passed.after_is.stores_are) p.follows
 
   lengths : SameLengths kind (stores after) new
-  lengths = subst (λ shelf. SameLengths kind shelf run.new) (sym p.passed.after_is.stores_are) p.lengths
+  lengths = subst (λ shelf. SameLengths kind shelf run.new) (sym p.made.passed.after_is.stores_are) p.lengths
 
   region_is : before.settings.region ≡ l.settings.region
-  region_is = ap (λ (s : Settings). s.region) p.passed.before_is.settings_are
+  region_is = ap (λ (s : Settings). s.region) p.made.passed.before_is.settings_are
 
   copies_is : before.settings.replicas ≡ l.settings.replicas
-  copies_is = ap (λ (s : Settings). s.replicas) p.passed.before_is.settings_are
+  copies_is = ap (λ (s : Settings). s.replicas) p.made.passed.before_is.settings_are
 
   servers_is : before.settings.servers ≡ l.settings.servers
-  servers_is = ap (λ (s : Settings). s.servers) p.passed.before_is.settings_are
+  servers_is = ap (λ (s : Settings). s.servers) p.made.passed.before_is.settings_are
 
   -- the map that was kept has what was put
   map_is : v ≡ with (map change_of healed.puts) w
-  map_is = p.put.map ∙ ap (λ cs. with cs w) healed.changes
+  map_is = p.made.put.map ∙ ap (λ cs. with cs w) healed.changes
 
   module _ (tells : TellUp kind lost (stores before)) (can : CanHeal kind before w) (out : ℕ → Bool) (size : ℕ → ℕ → ℕ) (bytes : List ℕ)
       (load : IsLoadWithout out size bytes l) (room : HasNextNumber bytes) (t : Tree) (tree : IsLiveTree told lost bytes t) where
@@ -125,10 +126,10 @@ module _ {S : Type 0} {kind : StoreKind S} (laws : KindLaws kind) (replicas : Re
     left_stands tx le = subst (λ r. Stands r told tx 0 live.live t) (sym region_is) (live.stands tx le)
 
     abbrev are_mended : AreMended b n told later lost w healed.puts
-    are_mended = mended laws before after new p.passed.goes follows w made healed tells
+    are_mended = mended laws before after new p.made.passed.goes follows w made healed tells
 
     abbrev on : TellsOn told later
-    on = later_on laws before after new p.passed.goes follows w made healed
+    on = later_on laws before after new p.made.passed.goes follows w made healed
 
     stands : (tx : ℕ) → l.next_tx ≤ tx → Stands b later tx 0 v t
     stands tx le = subst (λ m. Stands b later tx 0 m t) (sym map_is)
@@ -140,7 +141,7 @@ module _ {S : Type 0} {kind : StoreKind S} (laws : KindLaws kind) (replicas : Re
     next_is = load.next_tx
 
     number_is : kv.number ≡ load.rows.header.installs + (if nat_lt 0 (length made.changes) then 1 else 0)
-    number_is = p.put.number ∙ ap (λ k. k + (if nat_lt 0 (length made.changes) then 1 else 0)) load.store.number
+    number_is = p.made.put.number ∙ ap (λ k. k + (if nat_lt 0 (length made.changes) then 1 else 0)) load.store.number
 
     one_more : (x : Bool) → (if x then 1 else 0) ≤ 1
     one_more true = omega arith
@@ -166,7 +167,7 @@ module _ {S : Type 0} {kind : StoreKind S} (laws : KindLaws kind) (replicas : Re
         (stands_savable b later l.next_tx 0 v t (stands l.next_tx (omega arith)) l.next_tx begun all_before)
 
     kept : IsKept kv l.settings l.next_tx image
-    kept = p.kept number_fits (let fits = load.taken.good.next_tx in let e = next_is in omega (arith, fits, e)) savable
+    kept = p.made.kept number_fits (let fits = load.taken.good.next_tx in let e = next_is in omega (arith, fits, e)) savable
 
     kept_region : kept.rows.header.region ≡ b
     kept_region = ap (λ h. h.region) kept.header ∙ sym region_is
@@ -197,14 +198,14 @@ module _ {S : Type 0} {kind : StoreKind S} (laws : KindLaws kind) (replicas : Re
 
     pointers : are_inside (size_in kind new) kept.rows ≡ true
     pointers =
-        let same : p.saved.rows ≡ kept.rows = same_rows p.saved.rows kept.rows image p.saved.text kept.text in
-        let servers : p.saved.rows.header.servers ≡ before.settings.servers =
-        ap (λ h. h.servers) p.saved.header ∙ sym servers_is in
+        let same : p.made.saved.rows ≡ kept.rows = same_rows p.made.saved.rows kept.rows image p.made.saved.text kept.text in
+        let servers : p.made.saved.rows.header.servers ≡ before.settings.servers =
+        ap (λ h. h.servers) p.made.saved.header ∙ sym servers_is in
         let all : (i : InodeId) (r : ℕ) → ValueBytes (are_in before.settings.servers (size_in kind new)) any_slice (v (Region i r)) = λ i r.
         subst (λ (m : Map). ValueBytes (are_in before.settings.servers (size_in kind new)) any_slice (m (Region i r))) (sym map_is)
-        (region_inside laws before after new p.passed.goes follows w made healed can i r) in
+        (region_inside laws before after new p.made.passed.goes follows w made healed can i r) in
         subst (λ (x : ImageRows). are_inside (size_in kind new) x ≡ true) same
-        (rows_inside before.settings.servers (size_in kind new) v all p.saved.rows p.saved.text.shape p.saved.says servers)
+        (rows_inside before.settings.servers (size_in kind new) v all p.made.saved.rows p.made.saved.text.shape p.made.saved.says servers)
 
     image_tree : IsImageOfTree later image t
     image_tree = record {
@@ -252,7 +253,7 @@ module _ {S : Type 0} {kind : StoreKind S} (laws : KindLaws kind) (replicas : Re
     }
 
     pub healed_counted : AreToHeal told lost bytes (length made.changes) made.bytes
-    healed_counted = to_heal laws before after new p.passed.goes follows w made healed live.live left tells bytes load.rows load.taken.text load.store.map
+    healed_counted = to_heal laws before after new p.made.passed.goes follows w made healed live.live left tells bytes load.rows load.taken.text load.store.map
         (sym load.settings.region ∙ sym region_is) (sym load.settings.replicas ∙ sym copies_is)
 
     pub healed_installs : (x y : ImageRows) → HasText x bytes → HasText y image
@@ -266,21 +267,22 @@ module _ {S : Type 0} {kind : StoreKind S} (laws : KindLaws kind) (replicas : Re
     healed_growth none x text =
         let rows = same_rows load.rows x bytes load.taken.text text in
         let copies : n ≡ x.header.replicas = copies_is ∙ load.settings.replicas ∙ ap (λ (r : ImageRows). r.header.replicas) rows in
-        let shelf = p.passed.before_is.stores_are in
-        healed_grew laws before after new p.passed.goes follows w made healed lengths
+        let shelf = p.made.passed.before_is.stores_are in
+        healed_grew laws before after new p.made.passed.goes follows w made healed lengths
         (subst (λ sh. (k : ℕ) → HasRisen kind sh new k → ⊥) (sym shelf) none)
         ∙ ap (λ sh. all_stored kind sh + n * made.bytes) shelf ∙ ap (λ c. all_stored kind run.old + c * made.bytes) copies
 
 -- what a run promises that ended with status 0
-pub heals : {S : Type 0} {kind : StoreKind S} → KindLaws kind → (ks bytes : List ℕ) (run : RunSpan S) (lines : List ℕ) → WasHealed kind ks bytes run lines
-    → AreTelling kind ks run.old run.keeper bytes → HasNextNumber bytes → (t : Tree) → IsLiveTree (byte_at kind run.old) (is_server_in ks) bytes t
-    → (text : List ℕ) (written : Option (List ℕ)) → written ≡ Some (text ++ lines) → Heals kind ks run.old run.new run.keeper_now t bytes text written
-heals {S = S} {kind = kind} laws ks bytes run lines done telling room t tree text written wrote =
+pub heals : {S O : Type 0} {kind : StoreKind S} → KindLaws kind → (ks bytes : List ℕ) (run : RunSpan S) (out : SinkSpan O) (lines : List ℕ)
+    → WasHealed kind ks bytes run lines → AreTelling kind ks run.old run.keeper bytes → HasNextNumber bytes → (t : Tree)
+    → IsLiveTree (byte_at kind run.old) (is_server_in ks) bytes t
+    → ((text : List ℕ) → (out.view out.old).taken ≡ Some text → (out.view out.new).taken ≡ Some (text ++ lines)) → Heals kind ks run out t bytes
+heals {S = S} {kind = kind} laws ks bytes run out lines done telling room t tree wrote =
     let replicas : Replicas = done.began.replicas in
     let l : Loaded = done.began.loaded in
     let load = done.began.is_loaded.load in
-    let p = done.kept in
-    let passed = p.passed in
+    let p = done.kept.whole in
+    let passed = p.made.passed in
     let before : Dev S = passed.before in
     let later : Told = byte_at kind run.new in
     let lost : ℕ → Bool = is_down_in before in
@@ -296,15 +298,15 @@ heals {S = S} {kind = kind} laws ks bytes run lines done telling room t tree tex
     let size : ℕ → ℕ → ℕ = size_in kind run.old in
     record {
       kept = p.image;
-      held = p.held telling.keeper_tells;
+      held = done.kept.held telling.keeper_tells;
       image = subst (λ (f : ℕ → Bool). IsHealedImage later (size_in kind run.new) f t bytes p.image) same
           (healed_image laws replicas l run lines p tells able (is_server_in ks) size bytes load room t here);
-      regions = length p.healed.changes;
-      anew = p.healed.bytes;
-      counted = subst (λ (f : ℕ → Bool). AreToHeal (byte_at kind run.old) f bytes (length p.healed.changes) p.healed.bytes) same
-          (subst (λ sh. AreToHeal (byte_at kind sh) lost bytes (length p.healed.changes) p.healed.bytes) shelf
+      regions = length p.made.healed.changes;
+      anew = p.made.healed.bytes;
+      counted = subst (λ (f : ℕ → Bool). AreToHeal (byte_at kind run.old) f bytes (length p.made.healed.changes) p.made.healed.bytes) same
+          (subst (λ sh. AreToHeal (byte_at kind sh) lost bytes (length p.made.healed.changes) p.made.healed.bytes) shelf
           (healed_counted laws replicas l run lines p tells able (is_server_in ks) size bytes load room t here));
-      wrote = wrote ∙ ap (λ (line : List ℕ). Some (text ++ line)) p.lines_are;
+      wrote = λ text taken. wrote text taken ∙ ap (λ (line : List ℕ). Some (text ++ line)) p.made.lines_are;
       installs = healed_installs laws replicas l run lines p tells able (is_server_in ks) size bytes load room t here;
       grew = healed_growth laws replicas l run lines p tells able (is_server_in ks) size bytes load room t here;
     }

@@ -2,6 +2,7 @@ mod Walks
 mod Losing
 mod Naming
 mod Reading
+mod Placing
 mod Restoring
 mod Faulting
 mod Shortening
@@ -28,3 +29,4 @@ mod Heals
 mod Faultless
 mod Theorem
 mod Unharmed
+mod Progressing

@@ -7,7 +7,8 @@ use Rattle.std.specs.declared.cmp.Ordering.TheVariants.{Less, Equal, Greater}
 use Rattle.std.specs.Ordering.{is_lt, ordering_reverse}
 use Rattle.std.specs.Cmp.{tied_itself}
 use Rattle.std.proofs.lemmas.List.{map-append}
-use Rattle.std.proofs.lemmas.List.Elements.{All-nil, All-cons, All-weaker, All-append, Contains-append_left, Contains-append_right}
+use Rattle.std.proofs.lemmas.List.Elements.{All-nil, All-cons, All-head, All-tail, All-weaker, All-append}
+use Rattle.std.proofs.lemmas.List.Elements.{Contains-append_left, Contains-append_right, Contains-append_cases}
 use Rattle.std.proofs.lemmas.List.Quantifiers.{all_pairs_push}
 use Rattle.std.proofs.lemmas.List.Sums.{sum_by-append}
 use Rattle.wtf_base.specs.declared.ids.InodeId.{InodeId}
@@ -37,26 +38,27 @@ use Rattle.wtf_region.specs.Devs.{IsSoundDev, GoesOn, stores, is_down_in, told_i
 use Rattle.wtf_region.proofs.Spans.{goes_on, goes_nowhere}
 use Rattle.wtf_region.proofs.Frames.{tells_on}
 use Rattle.wtf_healer.specs.Bases.{UpTells, IsBaseRead}
-use Rattle.wtf_healer.specs.Regions.{HasNoSparse, IsHealed, Put, change_of, IsPutOf, IsPutFor, IsPutAt, IsLeftAt, IsHealedAt, AreHealed}
+use Rattle.wtf_healer.specs.Regions.{HasNoSparse, IsHealed, Put, change_of, IsPutOf, IsPutFor, IsPutAt, IsLeftAt, IsHealedAt, AreHealed, IsDone}
 use Rattle.wtf_healer.specs.Restored.{Grew, AreRestored, OnlyStored}
-use Rattle.wtf_healer.specs.Sparse.{is_to_heal}
 use Rattle.wtf_healer.specs.declared.entries.Restored.{Restored}
 use Rattle.wtf_healer.specs.declared.regions.Healed.{Healed}
-use Rattle.wtf_healer.proofs.Faulting.{stores_over, stores_nothing}
-use Rattle.wtf_healer.proofs.Healing.{read_later, restored_since}
+use Rattle.wtf_healer.proofs.Faulting.{single, stores_over, stores_nothing}
+use Rattle.wtf_healer.proofs.Healing.{read_later, restored_since, to_heal_since}
+use Rattle.wtf_healer.proofs.Placing.{are_made_later}
 use Rattle.wtf_healer.proofs.Restoring.{down_same, kept_later, entries_later, grew_on, grew_none}
 
 -- ---- a region that was read or healed, over a longer span
 
 module _ {S : Type 0} {kind : StoreKind S} (laws : KindLaws kind) where
-  restored_later : (old mid new : Dev S) → IsSoundDev kind mid → GoesOn kind mid new [] → (es fs : List Entry) (n : ℕ)
-      → AreRestored kind old mid es fs n → AreRestored kind old new es fs n
-  restored_later old mid new sound g es fs n h = record {
+  restored_later : (old mid new : Dev S) → IsSoundDev kind mid → GoesOn kind mid new [] → (key : RegionKey) (es fs : List Entry) (n : ℕ)
+      → AreRestored kind old mid key es fs n → AreRestored kind old new key es fs n
+  restored_later old mid new sound g key es fs n h = record {
     keeps = λ tells. kept_later laws (is_down_in old) (stores old) (stores mid) (stores new) g.each es fs (h.keeps tells);
     whole = h.whole;
     within = h.within;
     inside = entries_later laws mid new sound g fs h.inside;
     bytes = h.bytes;
+    made = are_made_later laws old mid new g key es fs h.made;
   }
 
   up_since : (old mid : Dev S) → GoesOn kind old mid [] → (s : Slice) (bytes : List ℕ) → UpTells (is_down_in old) (told_in kind old) s bytes
@@ -80,12 +82,6 @@ module _ {S : Type 0} {kind : StoreKind S} (laws : KindLaws kind) where
     inside = h.inside;
   }
 
-  to_heal_since : (old mid : Dev S) → GoesOn kind old mid [] → (under : List Entry) (v : RegionValue)
-      → is_to_heal (is_down_in old) old.settings.replicas under v ≡ is_to_heal (is_down_in mid) mid.settings.replicas under v
-  to_heal_since old mid f under v =
-      ap (λ c. is_to_heal (is_down_in old) c under v) (sym (ap (λ (st : Settings). st.replicas) f.settings))
-      ∙ ap (λ (d : ℕ → Bool). is_to_heal d mid.settings.replicas under v) (sym (down_same laws f))
-
   pub sound_later : (old mid new : Dev S) → IsSoundDev kind mid → GoesOn kind mid new [] → (v : RegionValue) → HasNoSparse kind old mid v
       → HasNoSparse kind old new v
   sound_later old mid new sound g v h = record { under = h.under; read = read_later laws old mid new sound g v.base h.under h.read; whole = h.whole }
@@ -94,29 +90,29 @@ module _ {S : Type 0} {kind : StoreKind S} (laws : KindLaws kind) where
   sound_since old mid new f v h = record {
     under = h.under;
     read = read_since old mid new f v.base h.under h.read;
-    whole = to_heal_since old mid f h.under v ∙ h.whole;
+    whole = to_heal_since laws old mid f h.under v ∙ h.whole;
   }
 
-  healed_later : (old mid new : Dev S) → IsSoundDev kind mid → GoesOn kind mid new [] → (v : RegionValue) (made : Restored) → IsHealed kind old mid v made
-      → IsHealed kind old new v made
-  healed_later old mid new sound g v made h = record {
+  healed_later : (old mid new : Dev S) → IsSoundDev kind mid → GoesOn kind mid new [] → (key : RegionKey) (v : RegionValue) (made : Restored)
+      → IsHealed kind old mid key v made → IsHealed kind old new key v made
+  healed_later old mid new sound g key v made h = record {
     under = h.under;
     read = read_later laws old mid new sound g v.base h.under h.read;
     sparse = h.sparse;
     short = h.short;
     short_is = h.short_is;
-    restored = restored_later old mid new sound g h.short made.list made.bytes h.restored;
+    restored = restored_later old mid new sound g key h.short made.list made.bytes h.restored;
   }
 
-  healed_since : (old mid new : Dev S) → GoesOn kind old mid [] → (v : RegionValue) (made : Restored) → IsHealed kind mid new v made
-      → IsHealed kind old new v made
-  healed_since old mid new f v made h = record {
+  healed_since : (old mid new : Dev S) → GoesOn kind old mid [] → (key : RegionKey) (v : RegionValue) (made : Restored) → IsHealed kind mid new key v made
+      → IsHealed kind old new key v made
+  healed_since old mid new f key v made h = record {
     under = h.under;
     read = read_since old mid new f v.base h.under h.read;
-    sparse = to_heal_since old mid f h.under v ∙ h.sparse;
+    sparse = to_heal_since laws old mid f h.under v ∙ h.sparse;
     short = h.short;
     short_is = h.short_is;
-    restored = restored_since laws old mid new f h.short made.list made.bytes h.restored;
+    restored = restored_since laws old mid new f key h.short made.list made.bytes h.restored;
   }
 
   put_later : (old mid new : Dev S) → IsSoundDev kind mid → GoesOn kind mid new [] → (w : Map) (p : Put) → IsPutFor kind old mid w p → IsPutFor kind old new w p
@@ -124,12 +120,18 @@ module _ {S : Type 0} {kind : StoreKind S} (laws : KindLaws kind) where
     was = h.was;
     there = h.there;
     made = h.made;
-    healed = healed_later old mid new sound g h.was h.made h.healed;
+    healed = healed_later old mid new sound g p.key h.was h.made h.healed;
     put = h.put;
   }
 
   put_since : (old mid new : Dev S) → GoesOn kind old mid [] → (w : Map) (p : Put) → IsPutFor kind mid new w p → IsPutFor kind old new w p
-  put_since old mid new f w p h = record { was = h.was; there = h.there; made = h.made; healed = healed_since old mid new f h.was h.made h.healed; put = h.put }
+  put_since old mid new f w p h = record {
+    was = h.was;
+    there = h.there;
+    made = h.made;
+    healed = healed_since old mid new f p.key h.was h.made h.healed;
+    put = h.put;
+  }
 
 -- ---- one key
 
@@ -144,7 +146,8 @@ region_is (Some (value.Region g)) v e = let same : g ≡ v = cc in ap (λ x. Som
 module _ {S : Type 0} (kind : StoreKind S) (t : Dev S × Dev S) (w : Map) where
   -- what was put in the place of a region that was healed
   pub put_at : (i : InodeId) (r : ℕ) (v : RegionValue) (made : Restored) (p : Put) (was now : Healed) → w (Region i r) ≡ Some (value.Region v)
-      → IsHealed kind t.0 t.1 v made → IsPutOf (record { inode = i; region = r }) v.end made p → now.changes ≡ was.changes ++ change_of p ∷ []
+      → IsHealed kind t.0 t.1 (record { inode = i; region = r }) v made → IsPutOf (record { inode = i; region = r }) v.end made p
+      → now.changes ≡ was.changes ++ change_of p ∷ []
       → now.bytes ≡ was.bytes + made.bytes → Grew kind t.0 t.1 made.bytes → IsPutAt kind t w (Region i r) was now
   put_at i r v made p was now there healed put changes bytes grew = record {
     put = p;
@@ -153,13 +156,22 @@ module _ {S : Type 0} (kind : StoreKind S) (t : Dev S × Dev S) (w : Map) where
       was = v;
       there = ap (λ (k : RegionKey). w (Region k.inode k.region)) put.key_is ∙ there;
       made = made;
-      healed = healed;
+      healed = subst (λ (k : RegionKey). IsHealed kind t.0 t.1 k v made) (sym put.key_is) healed;
       put = record { key_is = refl; end_is = put.end_is; base_is = put.base_is; list_is = put.list_is; bytes_are = put.bytes_are };
     };
     changes = changes;
     bytes = bytes ∙ ap (λ n. was.bytes + n) (sym put.bytes_are);
     grew = subst (Grew kind t.0 t.1) (sym put.bytes_are) grew;
   }
+
+-- what is put at a key has what holds of all that is put
+put_of : (P : Put → Type 0) (puts : List Put) (key : RegionKey) → All P puts → Contains (map (λ (p : Put). p.key) puts) key
+    → (p : Put) × (p.key ≡ key) × P p
+put_of P [] key all there = absurd (omega (arith, there.1))
+put_of P (p ∷ ps) key all there = elim (Contains-append_cases (p.key ∷ []) (map (λ (q : Put). q.key) ps) key there) [
+  | inl here ↦ (p, single p.key key here, All-head P p ps all)
+  | inr later ↦ put_of P ps key (All-tail P p ps all) later
+]
 
 key_same : (i : InodeId) (r : ℕ) (k : RegionKey) → Region i r ≡ Region k.inode k.region → record { inode = i; region = r } ≡ k
 key_same i r k e =
@@ -323,6 +335,25 @@ module _ {S : Type 0} {kind : StoreKind S} (laws : KindLaws kind) (kv : Store Ke
 
     pub pass_on : IsHealedAt kind (mid, new) w k was now → Passed kind old new kv next now
     pass_on h = elim h [ inl put ↦ pass_put put | inr left ↦ pass_left left ]
+
+  value_same : (x y : RegionValue) → Some (value.Region x) ≡ Some (value.Region y) → x ≡ y
+  value_same x y e = cc
+
+  -- of the regions below a key each is whole or was healed, also where more was done after that
+  pub pass_earlier : (old mid new : Dev S) → GoesOn kind mid new [] → (k : Key) (h : Healed) → Passed kind old mid kv (Some k) h → (i : InodeId) (r : ℕ)
+      (v : RegionValue) → w (Region i r) ≡ Some (value.Region v) → key_cmp (Region i r) k ≡ Less → IsDone kind old new (record { inode = i; region = r }) v
+  pass_earlier old mid new g k h p i r v has less = elim (p.others i r v has (ap is_lt less)) [
+    | inl there ↦
+        let key : RegionKey = record { inode = i; region = r } in
+        let one = put_of (IsPutFor kind old mid w) p.puts key p.each there in
+        let for_it = one.2 in
+        let same : for_it.was ≡ v =
+        value_same for_it.was v (sym for_it.there ∙ ap (λ (x : RegionKey). w (Region x.inode x.region)) one.1 ∙ has) in
+        let was = subst (λ (x : RegionKey). IsHealed kind old mid x for_it.was for_it.made) one.1 for_it.healed in
+        let here = subst (λ (x : RegionValue). IsHealed kind old mid key x for_it.made) same was in
+        inr (for_it.made, healed_later laws old mid new p.goes.sound g key v for_it.made here)
+    | inr s ↦ inl (sound_later laws old mid new p.goes.sound g v s)
+  ]
 
   -- behind the last key all regions were
   pub pass_ends : (old new : Dev S) (h : Healed) → Passed kind old new kv None h → AreHealed kind old new w h

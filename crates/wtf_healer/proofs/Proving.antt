@@ -6,7 +6,7 @@ use Rattle.std.proofs.lemmas.List.{append-nil}
 use Rattle.wtf_base.specs.declared.fault.Fault.{Fault}
 use Rattle.wtf_base.specs.declared.settings.Settings.{Settings}
 use Rattle.wtf_dev.specs.Counts.{Rose}
-use Rattle.wtf_dev.specs.Store.{StoreKind}
+use Rattle.wtf_dev.specs.Store.{StoreKind, KindLaws}
 use Rattle.wtf_replica.specs.declared.replicas.Replicas.{Replicas}
 use Rattle.wtf_replica.specs.Downs.{is_down}
 use Rattle.wtf_replica.specs.Outs.{SameSyncs}
@@ -31,6 +31,7 @@ use Rattle.wtf_healer.specs.Runs.{SaysText, AreNotSpared, AreRefused, IsRefusedI
 use Rattle.wtf_healer.specs.Steps.{Passed}
 use Rattle.wtf_healer.specs.Words.{is_server_in}
 use Rattle.wtf_healer.proofs.Ending.{At, at}
+use Rattle.wtf_healer.proofs.Passes.{rose_behind}
 
 -- bytes are the text of one image
 pub same_rows : (x y : ImageRows) (bytes : List ℕ) → HasText x bytes → HasText y bytes → x ≡ y
@@ -194,9 +195,11 @@ module _ {S O : Type 0} (kind : StoreKind S) (names : Option (List ℕ)) (t : Ru
           let l = b.is_loaded.load in
           let there : k < l.rows.header.servers = subst (λ (y : ImageRows). k < y.header.servers) (same_rows x l.rows bytes text l.taken.text) below in
           let known : k < b.loaded.settings.servers = omega (arith, there, l.settings.servers) in
-          let last = h.kept.synced k known (b.down k ∙ up) in
+          let last = h.kept.synced k (subst (λ (s : Settings). k < s.servers) (sym b.settings) known) (b.down k ∙ up) in
           let enough : k < length t.old = omega (arith, known, b.is_loaded.spared.stores_are) in
-          (enough, λ d low. omega (arith, last.1 d low, passed_syncs kind b.replicas b.loaded.settings t.old h.kept.middle h.kept.passed k d enough))
+          let whole = h.kept.whole in
+          let still = passed_syncs kind b.replicas b.loaded.settings t.old whole.middle whole.made.passed in
+          (enough, λ d low. omega (arith, last.1 d low, still k d enough))
 
       pub synced : (status : ℕ) → Ended status → held ≢ [] → status ≡ 0 → AreSynced kind ks t.old t.new held
       synced status h some zero = by (here 0 status h zero)
@@ -292,12 +295,18 @@ module _ {S O : Type 0} (kind : StoreKind S) (names : Option (List ℕ)) (t : Ru
   pub keeper_cause : (status : ℕ) → Ended status → status ≡ 8 → Rose t.keeper.faults t.keeper_now.faults
   keeper_cause status h eight = (here 8 status h eight).0.2
 
-  unsaved : (ks image : List ℕ) → WasStopped kind ks image t stop.Save → IsSaveFault kind t.handed ks t.old t.new (t.keeper, t.keeper_now)
-  unsaved ks bytes h = elim h.cause [
-    | inl store ↦ inl (store.0, sym (h.began.down store.0) ∙ store.2, store.3, store.4)
-    | inr keeper ↦ inr keeper
+  unsaved : KindLaws kind → (ks image : List ℕ) → WasStopped kind ks image t stop.Save
+      → IsSaveFault kind t.handed ks t.old t.new (t.keeper, t.keeper_now)
+  unsaved laws ks bytes h = elim h.cause.cause [
+    | inl store ↦ (let (k, known, up, rise) = store.0 in let whole = h.cause.whole in inl (
+      k,
+      sym (h.began.down k) ∙ up,
+      rose_behind laws h.began.replicas h.began.loaded.settings t.old whole.middle t.new whole.made.passed k rise,
+      store.1,
+    ))
+    | inr keeper ↦ inr keeper.2
   ]
 
-  pub save_cause : (status : ℕ) → Ended status → status ≡ 5
+  pub save_cause : KindLaws kind → (status : ℕ) → Ended status → status ≡ 5
       → (ks : List ℕ) × (names ≡ Some ks) × IsSaveFault kind t.handed ks t.old t.new (t.keeper, t.keeper_now)
-  save_cause status h five = let e = (here 5 status h five).0 in (e.ks, e.given.named, unsaved e.ks e.image e.cause)
+  save_cause laws status h five = let e = (here 5 status h five).0 in (e.ks, e.given.named, unsaved laws e.ks e.image e.cause)

@@ -94,7 +94,7 @@ module _ (b : ℕ) (told now : Told) (lost : ℕ → Bool) (on : TellsOn told no
   entries_on es h = All-weaker (EntryBytes (is_told told)) (EntryBytes (is_told now))
       (λ (e : Entry) k i below. is_told-later told now (part_origin e.part i) on (k i below)) es h
 
-  abbrev left_later : (s : Slice) (whole : List Entry) → IsLeftList b told lost s whole → IsLeftList b now lost s whole
+  abbrev pub left_later : (s : Slice) (whole : List Entry) → IsLeftList b told lost s whole → IsLeftList b now lost s whole
   left_later s whole r = record {
     slice = r.slice;
     left = r.left;

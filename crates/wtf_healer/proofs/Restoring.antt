@@ -4,7 +4,7 @@ use Rattle.std.proofs.Common.{Ok, Err, refl, sym, ap, ◌∙◌, subst, arith, i
 use Rattle.std.specs.Prelude.{not, IfOk}
 use Rattle.std.proofs.Math.Nat.{mul-add}
 use Rattle.std.specs.List.{All, filter, list_all}
-use Rattle.std.proofs.lemmas.Bool.{and_parts, and_from, or_cases, or_from, or_left, or_right, ltb-true, lt-ltb, le-ltb}
+use Rattle.std.proofs.lemmas.Bool.{false≢true, and_parts, and_from, or_cases, or_from, or_left, or_right, ltb-true, lt-ltb, le-ltb}
 use Rattle.std.proofs.lemmas.List.Elements.{All-nil, All-cons, All-head, All-tail, All-weaker, All-append}
 use Rattle.std.proofs.lemmas.List.Folds.{list_any_none, list_any-append}
 use Rattle.wtf_base.specs.declared.pointer.Pointer.{Pointer}
@@ -19,6 +19,8 @@ use Rattle.wtf_base.proofs.Elements.{element}
 use Rattle.wtf_dev.specs.Store.{StoreKind, KindLaws}
 use Rattle.wtf_dev.specs.Each.{EachFollows}
 use Rattle.wtf_dev.specs.Sums.{all_stored}
+use Rattle.wtf_overlay.specs.declared.part.Part.{Part}
+use Rattle.wtf_overlay.specs.declared.part.Part.TheVariants.{Held}
 use Rattle.wtf_overlay.specs.declared.part.Entry.{Entry}
 use Rattle.wtf_overlay.specs.Clips.{Within}
 use Rattle.wtf_overlay.specs.Meaning.{meaning}
@@ -35,16 +37,19 @@ use Rattle.wtf_ring.specs.Points.{PlaceView}
 use Rattle.wtf_meta.specs.Bytes.{EntryBytes}
 use Rattle.wtf_meta.specs.Contents.{Told}
 use Rattle.wtf_meta.proofs.Telling.{TellsOn, meaning_later}
+use Rattle.wtf_region.specs.declared.cache.RegionKey.{RegionKey}
 use Rattle.wtf_region.specs.declared.dev.Dev.{Dev}
 use Rattle.wtf_region.specs.Devs.{IsSoundDev, GoesOn, stores, is_down_in, told_in, between}
 use Rattle.wtf_region.specs.Inside.{is_place_inside, is_inside, IsOnServers}
 use Rattle.wtf_region.specs.Showing.{OnlyRead}
 use Rattle.wtf_region.proofs.Frames.{tells_on}
 use Rattle.wtf_region.proofs.InsideLaws.{place_from, slice_inside}
+use Rattle.wtf_region.proofs.Spans.{goes_nowhere}
 use Rattle.wtf_region.specs.Showing.{meaning_up, told_by_some, ShownLive}
 use Rattle.wtf_healer.specs.Bases.{is_place_left, inside_left}
 use Rattle.wtf_healer.specs.Sparse.{has_lost, is_sparse_part, has_sparse, sparse_bytes}
-use Rattle.wtf_healer.specs.Restored.{TellUp, KeepsToldBytes, AreKept, Grew, IsStoredFor, IsRestored, AreRestored}
+use Rattle.wtf_healer.specs.Restored.{TellUp, KeepsToldBytes, AreKept, Grew, place_for, IsStoredFor, AreMadeOf, IsRestored, AreRestored}
+use Rattle.wtf_healer.proofs.Placing.{place_same, made_since, are_made_later, made_push}
 
 -- ---- bytes that copies on servers that are up tell
 
@@ -121,12 +126,12 @@ module _ {S : Type 0} {kind : StoreKind S} (laws : KindLaws kind) where
   down_same g = ap (λ r. is_down r.now) g.replicas
 
   -- bytes that were read of an entry and stored stand for it
-  pub stored_for : (old mid new : Dev S) → GoesOn kind old mid [] → OnlyRead kind (between old mid) → GoesOn kind mid new [] → (e : Entry) (v : List ℕ)
-      → ShownLive (is_down_in old) (told_in kind old) e.len (part_origin e.part) [] v
-      → (place : PlaceView) (s : Slice) → IsStored kind (between mid new) mid.settings.replicas place v s → IsInside kind (stores new) s
+  pub stored_for : (old mid new : Dev S) → GoesOn kind old mid [] → OnlyRead kind (between old mid) → GoesOn kind mid new [] → (key : RegionKey)
+      (e : Entry) (v : List ℕ) → ShownLive (is_down_in old) (told_in kind old) e.len (part_origin e.part) [] v
+      → (s : Slice) → IsStored kind (between mid new) mid.settings.replicas (place_for mid key e) v s → IsInside kind (stores new) s
       → IsOnServers mid.settings.servers s
-      → IsStoredFor kind old new e s
-  stored_for old mid new f r g e v live place s stored inside known =
+      → IsStoredFor kind old new key e s
+  stored_for old mid new f r g key e v live s stored inside known =
       let len : length v ≡ e.len = ap length live.more ∙ live.are.len in
       let down : is_down_in mid ≡ is_down_in old = down_same f in
       let low : (k : ℕ) → is_down_in mid k ≡ false → is_down_in old k ≡ false = λ k h. sym (ap (λ d. d k) down) ∙ h in
@@ -161,7 +166,37 @@ module _ {S : Type 0} {kind : StoreKind S} (laws : KindLaws kind) where
             total ∙ ap (λ n. n + mid.settings.replicas * length v) before
             ∙ ap (λ n. all_stored kind (stores old) + n * length v) (ap (λ (st : Settings). st.replicas) f.settings)
             ∙ ap (λ n. all_stored kind (stores old) + old.settings.replicas * n) len;
+        place = record {
+          before = mid;
+          after = new;
+          since = f;
+          goes = g;
+          until = goes_nowhere laws new g.sound;
+          bytes = v;
+          stored = subst (λ (p : PlaceView). IsStored kind (between mid new) mid.settings.replicas p v s) (place_same f key e) stored;
+        };
       }
+
+  -- so an entry of it stands for the one that was sparse
+  pub restored_of : (old new : Dev S) (key : RegionKey) (e x : Entry) (s : Slice) → is_sparse_part (is_down_in old) old.settings.replicas e.part ≡ true
+      → IsStoredFor kind old new key e s → x.off ≡ e.off → x.len ≡ e.len → x.part ≡ Held s → IsRestored kind old new key e x
+  restored_of old new key e x s sparse h off len part = record {
+    placed = record { off = off; len = len };
+    keeps = λ tells. record {
+      placed = record { off = off; len = len };
+      bytes = λ i b below up. ap (λ (p : Part). meaning (told_in kind new) (part_origin p i)) part ∙ h.keeps tells i b below up;
+    };
+    whole = ap (is_sparse_part (is_down_in old) old.settings.replicas) part ∙ h.whole;
+    inside = λ i below. ap (λ (p : Part). inside_left kind new (part_origin p i)) part ∙ h.inside i (omega (arith, below, len, h.len));
+    grew =
+        let all : sparse_bytes (is_down_in old) old.settings.replicas (e ∷ []) ≡ e.len + 0 = ap (λ b. cond b e.len 0 + 0) sparse in
+        let n : e.len ≡ sparse_bytes (is_down_in old) old.settings.replicas (e ∷ []) = omega (arith, all) in
+        subst (Grew kind old new) n h.grew;
+    made = record {
+      stays = λ whole. absurd (false≢true (sym whole ∙ sparse));
+      stored = λ is. (s, part, h.place);
+    };
+  }
 
   -- ---- lists of entries
 
@@ -242,10 +277,10 @@ module _ {S : Type 0} {kind : StoreKind S} (laws : KindLaws kind) where
       ∙ add_assoc all (r * n) (r * m) ∙ ap (λ x. all + x) (sym (mul-add r n m))
 
   -- one entry more
-  pub restored_more : (old mid new : Dev S) → GoesOn kind old mid [] → GoesOn kind mid new [] → (es fs gs : List Entry) (n m : ℕ) (e x : Entry)
-      → AreRestored kind old mid es fs n → IsRestored kind mid new e x → gs ≡ fs ++ x ∷ []
-      → m ≡ n + sparse_bytes (is_down_in mid) mid.settings.replicas (e ∷ []) → AreRestored kind old new (es ++ e ∷ []) gs m
-  restored_more old mid new f g es fs gs n m e x done one list bytes =
+  pub restored_more : (old mid new : Dev S) → GoesOn kind old mid [] → GoesOn kind mid new [] → (key : RegionKey) (es fs gs : List Entry) (n m : ℕ)
+      (e x : Entry) → AreRestored kind old mid key es fs n → IsRestored kind mid new key e x → gs ≡ fs ++ x ∷ []
+      → m ≡ n + sparse_bytes (is_down_in mid) mid.settings.replicas (e ∷ []) → AreRestored kind old new key (es ++ e ∷ []) gs m
+  restored_more old mid new f g key es fs gs n m e x done one list bytes =
       let down : is_down_in mid ≡ is_down_in old = down_same f in
       let r : mid.settings.replicas ≡ old.settings.replicas = ap (λ (st : Settings). st.replicas) f.settings in
       let more : sparse_bytes (is_down_in mid) mid.settings.replicas (e ∷ []) ≡ sparse_bytes (is_down_in old) old.settings.replicas (e ∷ []) =
@@ -281,6 +316,8 @@ module _ {S : Type 0} {kind : StoreKind S} (laws : KindLaws kind) where
             (All-cons (EntryBytes (inside_left kind new)) x [] one.inside (All-nil (EntryBytes (inside_left kind new)))));
         bytes = sum ∙ ap (λ y. y + sparse_bytes (is_down_in old) old.settings.replicas (e ∷ [])) done.bytes
             ∙ sym (sparse_bytes-append (is_down_in old) old.settings.replicas es (e ∷ []));
+        made = subst (AreMadeOf kind old new key (es ++ e ∷ [])) (sym list)
+            (made_push kind old new key es fs e x (are_made_later laws old mid new g key es fs done.made) (made_since laws old mid new f key e x one.made));
       }
 
   pub grew_none : (dev : Dev S) → Grew kind dev dev 0

@@ -8,6 +8,7 @@ use Rattle.wtf_base.specs.declared.settings.Settings.{Settings}
 use Rattle.wtf_base.specs.declared.slice.Slice.{Slice}
 use Rattle.wtf_base.specs.Slices.{pointers_of}
 use Rattle.wtf_dev.specs.Store.{StoreKind, KindLaws}
+use Rattle.wtf_kv.specs.Stores.{Store}
 use Rattle.wtf_overlay.specs.Origin.{part_origin}
 use Rattle.wtf_overlay.specs.declared.part.Part.TheVariants.{Held}
 use Rattle.wtf_replica.specs.Copies.{IsFetched}
@@ -15,18 +16,23 @@ use Rattle.wtf_replica.specs.Faults.{AreAllOut}
 use Rattle.wtf_replica.specs.Outs.{IsOut}
 use Rattle.wtf_replica.specs.Spans.{span}
 use Rattle.wtf_replica.proofs.Spans.{each_kept, all_out_since, out_since}
+use Rattle.wtf_values.specs.Keys.{key_cmp}
+use Rattle.wtf_values.specs.declared.key.Key.{Key}
+use Rattle.wtf_values.specs.declared.key.Key.TheVariants.{Region}
 use Rattle.wtf_values.specs.declared.region.RegionValue.{RegionValue}
 use Rattle.wtf_values.specs.declared.region.Spill.{Spill}
 use Rattle.wtf_values.specs.declared.value.Value.{Value}
 use Rattle.wtf_values.specs.declared.value.Value.TheVariants as value
 use Rattle.wtf_meta.specs.Bytes.{BaseBytes, ValueBytes, any_slice}
-use Rattle.wtf_meta.specs.Maps.{Map}
+use Rattle.wtf_meta.specs.Maps.{Map, metadata_at}
 use Rattle.wtf_region.specs.declared.dev.Dev.{Dev}
 use Rattle.wtf_region.specs.Devs.{IsSoundDev, GoesOn, stores, is_down_in, between}
 use Rattle.wtf_healer.specs.Bases.{inside_left}
-use Rattle.wtf_healer.specs.Regions.{CanHeal, HealLacksBase, HasDamage, IsRegionFault, IsHealFault}
+use Rattle.wtf_healer.specs.Regions.{CanHeal, HealLacksBase, HasDamage, IsRegionFault, IsFaultAt, IsHealFault}
+use Rattle.wtf_healer.specs.declared.regions.Healed.{Healed}
 use Rattle.wtf_healer.proofs.Faulting.{fault_over}
-use Rattle.wtf_healer.proofs.Passing.{read_since}
+use Rattle.wtf_healer.proofs.Healing.{to_heal_since}
+use Rattle.wtf_healer.proofs.Passing.{read_since, Passed, pass_earlier}
 use Rattle.wtf_healer.proofs.Restoring.{down_same, inside_later, entries_later}
 
 module _ {S : Type 0} {kind : StoreKind S} (laws : KindLaws kind) where
@@ -95,19 +101,29 @@ module _ {S : Type 0} {kind : StoreKind S} (laws : KindLaws kind) where
     })
   ]
   region_since old mid new f v (fault.Damaged k) h = damage_since old mid new f v.base k.0 h
-  region_since old mid new f v fault.Write h = fault_over laws old mid new f [] [] (λ e there. there) fault.Write h
+  region_since old mid new f v fault.Write h = record {
+    under = h.under;
+    read = read_since laws old mid new f v.base h.under h.read;
+    sparse = to_heal_since laws old mid f h.under v ∙ h.sparse;
+    short = h.short;
+    short_is = h.short_is;
+    lacks = fault_over laws old mid new f h.short h.short (λ e there. there) fault.Write h.lacks;
+  }
   region_since old mid new f v fault.Memory h = tt
   region_since old mid new f v (fault.Punch k) h = absurd h
 
-  -- why a region was not healed at one moment is why not all were
-  pub heal_since : (old mid new : Dev S) → GoesOn kind old mid [] → (w : Map) (why : Fault) → IsHealFault kind mid new w why → IsHealFault kind old new w why
-  heal_since old mid new f w why h = elim h [
+  -- why the region at a key was not healed is why not all were: those below it were passed
+  pub heal_since : (kv : Store Key Value) (old mid new : Dev S) → GoesOn kind mid new [] → (k : Key) (h : Healed) → Passed kind old mid kv (Some k) h
+      → (why : Fault) → IsFaultAt kind (mid, new) (metadata_at kv kv.number) k why → IsHealFault kind old new (metadata_at kv kv.number) why
+  heal_since kv old mid new g k h passed why at = elim at [
     | inl memory ↦ inl memory
     | inr lacks ↦ inr (record {
       inode = lacks.inode;
       region = lacks.region;
       value_is = lacks.value_is;
       there = lacks.there;
-      cause = region_since old mid new f lacks.value_is why lacks.cause;
+      cause = region_since old mid new passed.goes lacks.value_is why lacks.cause;
+      earlier = λ i r v has less.
+          pass_earlier laws kv old mid new g k h passed i r v has (ap (key_cmp (Region i r)) lacks.key_is ∙ less);
     })
   ]

@@ -15,8 +15,7 @@ use Rattle.wtf_dev.specs.Store.{StoreKind, KindLaws}
 use Rattle.wtf_dev.proofs.Each.{each_on, each_same}
 use Rattle.wtf_replica.specs.declared.replicas.Replicas.{Replicas}
 use Rattle.wtf_replica.specs.Downs.{is_down, during}
-use Rattle.wtf_replica.specs.Outs.{HasSynced, IsLeftDown, SameLengths}
-use Rattle.wtf_replica.proofs.Spans.{each_kept, risen_since}
+use Rattle.wtf_replica.specs.Outs.{IsLeftDown}
 use Rattle.wtf_meta.specs.Maps.{metadata_at}
 use Rattle.wtf_image.specs.declared.error.LoadError.{LoadError}
 use Rattle.wtf_image.specs.declared.error.LoadError.TheVariants as error
@@ -36,8 +35,8 @@ use Rattle.wtf_healer.specs.declared.ends.Stop.{Stop}
 use Rattle.wtf_healer.specs.declared.ends.Stop.TheVariants as stop
 use Rattle.wtf_healer.specs.declared.lost.Lost.{Lost}
 use Rattle.wtf_healer.specs.declared.regions.Healed.{Healed}
-use Rattle.wtf_healer.specs.Ends.{RunSpan, OnlyHealed, WasMade, IsMakeStop, IsUnsaved, IsPassStop, AreLostSame, IsLoadedFor, IsLoadStop, Began, WasKept}
-use Rattle.wtf_healer.specs.Ends.{WasHealed, IsUntouchedIn, IsStop, AreHanded, run_span, IsGiven, HasHealed, IsUndone, IsEnd, GoesBy}
+use Rattle.wtf_healer.specs.Ends.{RunSpan, OnlyHealed, WasMade, IsMakeStop, WasWhole, IsUnsaved, IsPassStop, AreLostSame, IsLoadedFor, IsLoadStop, Began}
+use Rattle.wtf_healer.specs.Ends.{WasHealed, IsUntouchedIn, IsStop, run_span, IsGiven, HasHealed, IsUndone, IsEarly, IsEnd, GoesBy}
 use Rattle.wtf_healer.specs.Lines.{done_lines}
 use Rattle.wtf_healer.specs.Regions.{AreHealed, IsHealFault}
 use Rattle.wtf_healer.specs.Runs.{AreNotSpared}
@@ -45,18 +44,13 @@ use Rattle.wtf_healer.specs.Spared.{AreSpared, IsLostOf, left_of}
 use Rattle.wtf_healer.specs.Steps.{IsPutIn, IsKeepFault, CanHealOver, Passed}
 use Rattle.wtf_healer.specs.Words.{is_server_in}
 use Rattle.wtf_healer.proofs.Inside.{can_heal}
+use Rattle.wtf_healer.proofs.Passes.{passed_follows}
 use Rattle.wtf_healer.proofs.Proving.{same_rows}
 
 -- ---- a pass
 
 module _ {S : Type 0} {Did : Dev S → Dev S → Type 0} (kind : StoreKind S) (replicas : Replicas) (settings : Settings) (old new : List S)
     (p : Passed kind replicas settings old new Did) where
-  -- each store follows what it was
-  pub passed_follows : EachFollows kind old new []
-  passed_follows =
-      subst (λ (a : List S). EachFollows kind old a []) p.after_is.stores_are
-      (subst (λ (b : List S). EachFollows kind b (stores p.after) []) p.before_is.stores_are p.goes.each)
-
   -- none of a server that is down was touched
   pub passed_down : IsLeftDown (during replicas old new)
   passed_down k d down =
@@ -143,43 +137,27 @@ was_made kind replicas l new old middle healed image lines passed put settings n
   lines_are = lines_are;
 }
 
--- and was kept
-pub was_kept : {S : Type 0} (kind : StoreKind S) (replicas : Replicas) (l : Loaded) (t : RunSpan S) (middle : List S) (image lines : List ℕ)
-    → WasMade kind replicas l t.old middle image lines → replicas.settings ≡ l.settings
-    → ((k : ℕ) → k < replicas.settings.servers → is_down replicas k ≡ false → HasSynced kind middle t.new k)
-    → EachFollows kind middle t.new [] → SameLengths kind middle t.new → (t.keeper.tells ≡ true → t.keeper_now.held ≡ Some image)
-    → WasKept kind replicas l t lines
-was_kept kind replicas l t middle image lines made same synced follows lengths held = record {
-  healed = made.healed;
-  middle = middle;
-  passed = made.passed;
-  kv = made.kv;
-  put = made.put;
-  image = image;
-  saved = made.saved;
-  kept = made.kept;
-  synced = λ k known up. synced k (subst (λ (s : Settings). k < s.servers) (sym same) known) up;
-  follows = follows;
-  lengths = lengths;
-  held = held;
-  lines_are = made.lines_are;
+-- and why that was not kept
+pub keep_stop : {S K : Type 0} (kind : StoreKind S) (view : K → KeeperView) (follows : K → K → List (List ℕ) → Type 0) (replicas : Replicas) (l : Loaded)
+    (old new : List S) (held holds : K) (lines : List ℕ)
+    → (w : WasWhole kind replicas l (run_span view follows (old, held) (new, holds)) lines) → follows held held []
+    → IsKeepFault kind view follows replicas w.image (w.middle, held) (new, holds)
+    → IsUnsaved kind replicas l (run_span view follows (old, held) (new, holds))
+keep_stop kind view follows replicas l old new held holds lines w itself h = record {
+  lines = lines;
+  whole = w;
+  cause = elim h [ inl store ↦ inl (store.0, subst (λ k. follows held k []) (sym store.1) itself) | inr keeper ↦ inr keeper ];
 }
 
--- why what was healed was not kept, over the whole of a pass
-pub keep_stop : {S K : Type 0} (kind : StoreKind S) → KindLaws kind → (view : K → KeeperView) (follows : K → K → List (List ℕ) → Type 0) (replicas : Replicas)
-    (settings : Settings) (old mid new : List S) (held holds : K) → replicas.settings ≡ settings → EachFollows kind old mid [] → follows held held []
-    → IsKeepFault kind view replicas (mid, held) (new, holds)
-    → IsUnsaved kind replicas settings (record { old = old; new = new; keeper = view held; keeper_now = view holds; handed = follows held holds })
-keep_stop kind laws view follows replicas settings old mid new held holds same each itself h = elim h [
-  | inl store ↦ inl (
-    store.0,
-    subst (λ (s : Settings). store.0 < s.servers) same store.1,
-    store.2,
-    risen_since kind old mid new each.same_length (each_kept laws each) store.0 store.3,
-    subst (λ k. follows held k []) (sym store.4) itself,
-  )
-  | inr keeper ↦ inr keeper
-]
+-- a pass that began does not end so early
+pub not_early : {S : Type 0} (kind : StoreKind S) (replicas : Replicas) (l : Loaded) (t : RunSpan S) {A : Type 0} (why : Stop)
+    → IsPassStop kind replicas l t why → IsEarly why → A
+not_early kind replicas l t stop.Words h early = absurd h
+not_early kind replicas l t stop.Load h early = absurd h
+not_early kind replicas l t (stop.Refused why) h early = absurd h
+not_early kind replicas l t (stop.Unhealed why) h early = absurd early
+not_early kind replicas l t stop.Save h early = absurd early
+not_early kind replicas l t stop.Memory h early = absurd early
 
 -- ---- loading
 
@@ -336,19 +314,16 @@ pub some_bytes : (bytes : List ℕ) (n : ℕ) → (n == 0) ≡ false → length 
 some_bytes bytes n test len e = false≢true (sym test ∙ eq-eqb n 0 (sym len ∙ ap length e))
 
 -- where nothing was touched
-pub goes_untouched : {S : Type 0} {kind : StoreKind S} → KindLaws kind → (names : Option (List ℕ)) (t : RunSpan S) → t.new ≡ t.old → t.handed []
-    → GoesBy kind names t
-goes_untouched {kind = kind} laws names t same handed = record {
-  handed = ([], omega arith, handed);
+pub goes_untouched : {S : Type 0} {kind : StoreKind S} → KindLaws kind → (names : Option (List ℕ)) (t : RunSpan S) → t.new ≡ t.old → GoesBy kind names t
+goes_untouched {kind = kind} laws names t same = record {
   lost = λ ks named k d among. ap (λ s. get_or s k d) same;
   follows = subst (λ s. EachFollows kind t.old s []) (sym same) (each_same laws t.old);
 }
 
 -- where only what is left was healed
 pub goes_healed : {S : Type 0} (kind : StoreKind S) (ks : List ℕ) (t : RunSpan S) (replicas : Replicas) → OnlyHealed kind replicas t.old t.new
-    → AreLostSame ks t.old t.new → AreHanded t.handed → GoesBy kind (Some ks) t
-goes_healed kind ks t replicas only lost handed = record {
-  handed = handed;
+    → AreLostSame ks t.old t.new → GoesBy kind (Some ks) t
+goes_healed kind ks t replicas only lost = record {
   lost = λ js named. subst (λ l. AreLostSame l t.old t.new) (one_of named) lost;
   follows = only.follows;
 }
@@ -369,15 +344,14 @@ module _ {S K : Type 0} (kind : StoreKind S) (view : K → KeeperView) (follows 
   handed_late : (images : List (List ℕ)) → follows b c images → follows a c images
   handed_late images h = on a b c [] images first h
 
-  pub all_handed : AreHanded (follows b c) → AreHanded (follows a c)
-  all_handed h = (h.0, h.1, handed_late h.0 h.2)
-
   pub goes_late : (names : Option (List ℕ)) (ks : List ℕ) → names ≡ Some ks → GoesBy kind (Some ks) Late → GoesBy kind names Whole
   goes_late names ks named h = record {
-    handed = all_handed h.handed;
     lost = λ js is. h.lost js (sym named ∙ is);
     follows = h.follows;
   }
+
+  abbrev whole_late : (replicas : Replicas) (l : Loaded) (lines : List ℕ) → WasWhole kind replicas l Late lines → WasWhole kind replicas l Whole lines
+  whole_late replicas l lines h = record { middle = h.middle; image = h.image; made = h.made; follows = h.follows; lengths = h.lengths }
 
   -- what was healed behind that
   pub healed_late : (ks image lines : List ℕ) → WasHealed kind ks image Late lines → WasHealed kind ks image Whole lines
@@ -386,19 +360,10 @@ module _ {S K : Type 0} (kind : StoreKind S) (view : K → KeeperView) (follows 
       record {
         began = h.began;
         kept = record {
-          healed = k.healed;
-          middle = k.middle;
-          passed = k.passed;
-          kv = k.kv;
-          put = k.put;
-          image = k.image;
-          saved = k.saved;
-          kept = k.kept;
+          whole = whole_late h.began.replicas h.began.loaded lines k.whole;
           synced = k.synced;
-          follows = k.follows;
-          lengths = k.lengths;
+          handed = handed_late (k.whole.image ∷ []) k.handed;
           held = λ tells. k.held (kept.tells ∙ tells);
-          lines_are = k.lines_are;
         };
       }
 
@@ -408,9 +373,15 @@ module _ {S K : Type 0} (kind : StoreKind S) (view : K → KeeperView) (follows 
   rose_late : Rose (view b).faults (view c).faults → Rose (view a).faults (view c).faults
   rose_late rose low = let later = rose low in let less = kept.faults in omega (arith, later, less)
 
-  unsaved_late : (replicas : Replicas) (settings : Settings) → IsUnsaved kind replicas settings Late → IsUnsaved kind replicas settings Whole
-  unsaved_late replicas settings (inl store) = inl (store.0, store.1, store.2, store.3, handed_late [] store.4)
-  unsaved_late replicas settings (inr rose) = inr (rose_late rose)
+  unsaved_late : (replicas : Replicas) (l : Loaded) → IsUnsaved kind replicas l Late → IsUnsaved kind replicas l Whole
+  unsaved_late replicas l h = record {
+    lines = h.lines;
+    whole = whole_late replicas l h.lines h.whole;
+    cause = elim h.cause [
+      | inl store ↦ inl (store.0, handed_late [] store.1)
+      | inr keeper ↦ inr (keeper.0, handed_late (h.whole.image ∷ []) keeper.1, rose_late keeper.2)
+    ];
+  }
 
   -- and why it was not
   pub stop_late : (ks image : List ℕ) (why : Stop) → IsStop kind ks image Late why → IsStop kind ks image Whole why
@@ -419,7 +390,7 @@ module _ {S K : Type 0} (kind : StoreKind S) (view : K → KeeperView) (follows 
   stop_late ks image (stop.Refused why) h = (untouched_late h.0, h.1)
   stop_late ks image (stop.Unhealed why) h =
       record { began = h.began; cause = (h.cause.0, handed_late [] h.cause.1, h.cause.2) }
-  stop_late ks image stop.Save h = record { began = h.began; cause = unsaved_late h.began.replicas h.began.loaded.settings h.cause }
+  stop_late ks image stop.Save h = record { began = h.began; cause = unsaved_late h.began.replicas h.began.loaded h.cause }
   stop_late ks image stop.Memory h = handed_late [] h
 
   -- with what the words and the keeper give

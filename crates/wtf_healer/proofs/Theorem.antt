@@ -5,13 +5,15 @@ use Rattle.wtf_dev.specs.Store.{StoreKind, KindLaws}
 use Rattle.wtf_model.specs.Tree.{Tree}
 use Rattle.wtf_replica.specs.Bytes.{byte_at}
 use Rattle.wtf_healer.specs.Ends.{RunSpan, SinkSpan, WasHealed, WasStopped, IsGiven, HasHealed, IsEnd, IsUndone, IsToldStop, IsEndTold, IsHealOver}
+use Rattle.wtf_healer.specs.Heals.{Heals}
 use Rattle.wtf_healer.specs.Live.{IsLiveTree}
-use Rattle.wtf_healer.specs.Runs.{SaysText, HasNextNumber, AreTelling, Heals, NoFaultRose, OnlyServersTell}
+use Rattle.wtf_healer.specs.Runs.{SaysText, HasNextNumber, AreTelling, NoFaultRose, IsLiveTreeIn}
 use Rattle.wtf_healer.specs.Words.{is_server_in}
 use Rattle.wtf_healer.specs.declared.ends.Stop.{Stop}
 use Rattle.wtf_healer.specs.declared.ends.Stop.TheVariants as stop
 use Rattle.wtf_healer.proofs.Faultless.{no_fault}
 use Rattle.wtf_healer.proofs.Heals.{heals}
+use Rattle.wtf_healer.proofs.Passes.{rose_behind}
 
 -- the same words name the same servers
 one_naming : (names : Option (List ℕ)) (ks js : List ℕ) → names ≡ Some ks → names ≡ Some js → js ≡ ks
@@ -43,8 +45,7 @@ module _ {S O : Type 0} {kind : StoreKind S} (laws : KindLaws kind) (names : Opt
   done_end status (Ok lines) h zero = (lines, h.0, subst (Wrote lines 0) zero h.1)
   done_end status (Err why) h zero = absurd (done_stop status why h.1 zero)
 
-  module _ (held ks : List ℕ) (tree : Tree) (named : names ≡ Some ks) (some : held ≢ []) (telling : AreTelling kind ks t.old t.keeper held)
-      (live : IsLiveTree (byte_at kind t.old) (is_server_in ks) held tree) where
+  module _ (held ks : List ℕ) (tree : Tree) (named : names ≡ Some ks) (some : held ≢ []) (telling : AreTelling kind ks t.old t.keeper held) where
     -- what the keeper gave is what it held, and the servers are those of the words
     given : (P : List ℕ → List ℕ → Type 0) (js image : List ℕ) → IsGiven names js t.keeper image → P js image → P ks held
     given P js image g h = subst (P ks) (g.held held telling.held) (subst (λ l. P l image) (one_naming names ks js named g.named) h)
@@ -54,15 +55,15 @@ module _ {S O : Type 0} {kind : StoreKind S} (laws : KindLaws kind) (names : Opt
     was_healed lines (js, image, g, inr done) = given (λ l bytes. WasHealed kind l bytes t lines) js image g done.1
 
     -- a run with status 0 healed the image
-    pub healed : HasNextNumber held → (status : ℕ) → IsHealOver kind names t s status → status ≡ 0 → (text : List ℕ) → (s.view s.old).taken ≡ Some text
-        → Heals kind ks t.old t.new t.keeper_now tree held text (s.view s.new).taken
-    healed room status over zero text taken =
+    pub healed : HasNextNumber held → IsLiveTree (byte_at kind t.old) (is_server_in ks) held tree → (status : ℕ) → IsHealOver kind names t s status
+        → status ≡ 0 → Heals kind ks t s tree held
+    healed room live status over zero =
         let done = done_end status over.ended over.told zero in
-        heals laws ks held t done.0 (was_healed done.0 done.1) telling room tree live text (s.view s.new).taken (done.2.whole refl text taken)
+        heals laws ks held t s done.0 (was_healed done.0 done.1) telling room tree live (λ text taken. done.2.whole refl text taken)
 
     -- ---- where nothing failed
 
-    module _ (only : OnlyServersTell (byte_at kind t.old) held)
+    module _ (live : IsLiveTreeIn kind t.old (is_server_in ks) held tree)
         (still : NoFaultRose kind (s.view s.old, t.old, t.keeper) (s.view s.new, t.new, t.keeper_now)) where
       abbrev IsFine : ℕ → Type 0
       IsFine status = (status ≡ 0) ⊎ (status ≡ 2) ⊎ (status ≡ 6) ⊎ (status ≡ 7)
@@ -75,10 +76,17 @@ module _ {S O : Type 0} {kind : StoreKind S} (laws : KindLaws kind) (names : Opt
 
       no_undone : (why : Fault) → IsUndone kind names t (stop.Unhealed why) → ⊥
       no_undone why h =
-          no_fault laws ks held t why (given (λ l bytes. WasStopped kind l bytes t (stop.Unhealed why)) h.ks h.image h.given h.cause) tree live only still.1
+          no_fault laws ks held t why (given (λ l bytes. WasStopped kind l bytes t (stop.Unhealed why)) h.ks h.image h.given h.cause) tree live still.1
 
       no_unsaved : IsUndone kind names t stop.Save → ⊥
-      no_unsaved h = elim h.cause.cause [ inl store ↦ still.1 store.0 store.3 | inr keeper ↦ still.2 keeper ]
+      no_unsaved h =
+          let b = h.cause.began in
+          let w = h.cause.cause.whole in
+          elim h.cause.cause.cause [
+            | inl store ↦ (let (k, known, up, rise) = store.0 in
+                still.1 k (rose_behind laws b.replicas b.loaded.settings t.old w.middle t.new w.made.passed k rise))
+            | inr keeper ↦ still.2 keeper.2
+          ]
 
       fine_stop : (status : ℕ) (why : Stop) → IsEnd kind names t why → IsToldStop s status why → IsFine status
       fine_stop status stop.Words end told = inr (inl told.0)

@@ -1,7 +1,6 @@
 -- How a run ends before anything of it is said: what was kept, or why nothing was.
-use Rattle.std.specs.Prelude.{◌≡◌, ◌≢◌, ◌⊎◌, ℕ, ◌<◌, ◌≤◌, ◌^◌, true, false, List, [], length, slice_index_or, Option, None, Some, Result, Ok, Err, ⊤}
+use Rattle.std.specs.Prelude.{◌≡◌, ◌≢◌, ◌⊎◌, ℕ, ◌≤◌, ◌^◌, true, List, [], ◌∷◌, length, slice_index_or, Option, None, Some, Result, Ok, Err, ⊤}
 use Rattle.wtf_base.specs.declared.fault.Fault.TheVariants as fault
-use Rattle.wtf_base.specs.declared.settings.Settings.{Settings}
 use Rattle.wtf_dev.specs.Counts.{Rose}
 use Rattle.wtf_dev.specs.Each.{EachFollows}
 use Rattle.wtf_dev.specs.Keep.{KeeperView}
@@ -10,7 +9,7 @@ use Rattle.wtf_dev.specs.Streams.{SinkView}
 use Rattle.wtf_kv.specs.Stores.{Store}
 use Rattle.wtf_replica.specs.declared.replicas.Replicas.{Replicas}
 use Rattle.wtf_replica.specs.Downs.{is_down, during}
-use Rattle.wtf_replica.specs.Outs.{HasRisen, HasSynced, IsLeftDown, SameLengths}
+use Rattle.wtf_replica.specs.Outs.{IsLeftDown, SameLengths}
 use Rattle.wtf_values.specs.declared.key.Key.{Key}
 use Rattle.wtf_values.specs.declared.value.Value.{Value}
 use Rattle.wtf_meta.specs.Maps.{metadata_at}
@@ -31,7 +30,7 @@ use Rattle.wtf_healer.specs.Lines.{done_lines, fault_line, refusal_line}
 use Rattle.wtf_healer.specs.Regions.{AreHealed, IsHealFault}
 use Rattle.wtf_healer.specs.Runs.{AreNotSpared, SaysText}
 use Rattle.wtf_healer.specs.Spared.{AreSpared}
-use Rattle.wtf_healer.specs.Steps.{IsPutIn, Passed, SaysOrNot}
+use Rattle.wtf_healer.specs.Steps.{IsPutIn, AreUpSynced, HasUpFailed, Passed, SaysOrNot}
 use Rattle.wtf_healer.specs.Words.{is_server_in}
 
 -- what a run is lent, before it and behind it, and which images may have been handed to the keeper meanwhile
@@ -46,18 +45,12 @@ abbrev pub run_span : {S K : Type 0} → (K → KeeperView) → (K → K → Lis
 run_span view follows (old, held) (new, holds) =
     record { old = old; new = new; keeper = view held; keeper_now = view holds; handed = follows held holds }
 
--- one image or none was handed to the keeper
-abbrev pub AreHanded : (List (List ℕ) → Type 0) → Type 0
-AreHanded handed = (images : List (List ℕ)) × (length images ≤ 1) × handed images
-
 -- the stores of lost servers are as they were
 abbrev pub AreLostSame : {S : Type 0} → List ℕ → (old new : List S) → Type 0
 AreLostSame {S} ks old new = (k : ℕ) (d : S) → is_server_in ks k ≡ true → slice_index_or new k d ≡ slice_index_or old k d
 
--- what each run keeps, however it ends: one image or none was handed over, the stores of lost servers are as they were, and each store
--- follows what it was
+-- what each run leaves of stores, however it ends: those of lost servers are as they were, and each store follows what it was
 pub record GoesBy {S : Type 0} (kind : StoreKind S) (names : Option (List ℕ)) (t : RunSpan S) : Type 0 where
-  pub handed : AreHanded t.handed
   pub lost : (ks : List ℕ) → names ≡ Some ks → AreLostSame ks t.old t.new
   pub follows : EachFollows kind t.old t.new []
 
@@ -88,28 +81,29 @@ IsMakeStop kind replicas l old new (stop.Unhealed why) = (why ≢ fault.Memory)
 IsMakeStop kind replicas l old new stop.Save = ⊥
 IsMakeStop kind replicas l old new stop.Memory = ⊤
 
--- A pass was whole: each region was healed that had to be, which left the stores as `middle`; all of it was installed; then all stores
--- of servers that are up were synced, and the keeper has the image, where it tells what it holds. The lines say how much it was.
-pub record WasKept {S : Type 0} (kind : StoreKind S) (replicas : Replicas) (l : Loaded) (t : RunSpan S) (lines : List ℕ) : Type 0 where
-  pub healed : Healed
+-- A pass was whole: it left the stores as `middle`, and made this image and these lines. No byte was stored behind that.
+pub record WasWhole {S : Type 0} (kind : StoreKind S) (replicas : Replicas) (l : Loaded) (t : RunSpan S) (lines : List ℕ) : Type 0 where
   pub middle : List S
-  pub passed : Passed kind replicas l.settings t.old middle (λ before after. AreHealed kind before after (metadata_at l.kv l.kv.number) healed)
-  pub kv : Store Key Value
-  pub put : IsPutIn healed.changes l.kv kv
   pub image : List ℕ
-  pub saved : IsSaveOf kv l.settings l.next_tx image
-  pub kept : kv.number ≤ 2 ^ 62 → l.next_tx ≤ 2 ^ 62 → IsSavable l.settings.region l.next_tx (shown kv) → IsKept kv l.settings l.next_tx image
-  pub synced : (k : ℕ) → k < l.settings.servers → is_down replicas k ≡ false → HasSynced kind middle t.new k
+  pub made : WasMade kind replicas l t.old middle image lines
   pub follows : EachFollows kind middle t.new []
   pub lengths : SameLengths kind middle t.new
-  pub held : t.keeper.tells ≡ true → t.keeper_now.held ≡ Some image
-  pub lines_are : lines ≡ done_lines (length healed.changes) healed.bytes
 
--- In the closing sync a store that is up failed, and nothing was handed over; or the keeper failed.
-abbrev pub IsUnsaved : {S : Type 0} → StoreKind S → Replicas → Settings → RunSpan S → Type 0
-IsUnsaved kind replicas settings t =
-    ((k : ℕ) × (k < settings.servers) × (is_down replicas k ≡ false) × HasRisen kind t.old t.new k × t.handed [])
-    ⊎ Rose t.keeper.faults t.keeper_now.faults
+-- Behind a whole pass all stores of servers that are up were synced, and its image was handed to the keeper, which has it where it tells
+-- what it holds.
+pub record WasKept {S : Type 0} (kind : StoreKind S) (replicas : Replicas) (l : Loaded) (t : RunSpan S) (lines : List ℕ) : Type 0 where
+  pub whole : WasWhole kind replicas l t lines
+  pub synced : AreUpSynced kind replicas whole.middle t.new
+  pub handed : t.handed (whole.image ∷ [])
+  pub held : t.keeper.tells ≡ true → t.keeper_now.held ≡ Some whole.image
+
+-- Behind a whole pass a store of a server that is up failed as it was to be synced, and nothing was handed over; or all of them were
+-- synced, the image of the pass was handed over, and the keeper failed, which has what it held, or that image.
+pub record IsUnsaved {S : Type 0} (kind : StoreKind S) (replicas : Replicas) (l : Loaded) (t : RunSpan S) : Type 0 where
+  pub lines : List ℕ
+  pub whole : WasWhole kind replicas l t lines
+  pub cause : (HasUpFailed kind replicas whole.middle t.new × t.handed [])
+      ⊎ (AreUpSynced kind replicas whole.middle t.new × t.handed (whole.image ∷ []) × Rose t.keeper.faults t.keeper_now.faults)
 
 -- why nothing was kept of what was loaded; memory may be short at any time
 abbrev pub IsPassStop : {S : Type 0} → StoreKind S → Replicas → Loaded → RunSpan S → Stop → Type 0
@@ -118,7 +112,7 @@ IsPassStop kind replicas l t stop.Load = ⊥
 IsPassStop kind replicas l t (stop.Refused why) = ⊥
 IsPassStop kind replicas l t (stop.Unhealed why) = (why ≢ fault.Memory) × t.handed []
     × Passed kind replicas l.settings t.old t.new (λ before after. IsHealFault kind before after (metadata_at l.kv l.kv.number) why)
-IsPassStop kind replicas l t stop.Save = IsUnsaved kind replicas l.settings t
+IsPassStop kind replicas l t stop.Save = IsUnsaved kind replicas l t
 IsPassStop kind replicas l t stop.Memory = t.handed []
 
 -- ---- over an image
@@ -208,6 +202,32 @@ IsEnd kind names t (stop.Unhealed why) = IsUndone kind names t (stop.Unhealed wh
 IsEnd kind names t stop.Save = IsUndone kind names t stop.Save
 IsEnd kind names t stop.Memory = (IsUntouchedIn t × AreNamed names) ⊎ IsUndone kind names t stop.Memory
 
+-- a run ended before its pass began
+abbrev pub IsEarly : Stop → Type 0
+IsEarly stop.Words = ⊤
+IsEarly stop.Load = ⊤
+IsEarly (stop.Refused why) = ⊤
+IsEarly (stop.Unhealed why) = ⊥
+IsEarly stop.Save = ⊥
+IsEarly stop.Memory = ⊥
+
+-- ---- what the keeper was handed
+
+-- one image was handed over, that of a whole pass, of which all stores of servers that are left were synced
+pub record HandsImage {S : Type 0} (kind : StoreKind S) (names : Option (List ℕ)) (t : RunSpan S) : Type 0 where
+  pub ks : List ℕ
+  pub image : List ℕ
+  pub given : IsGiven names ks t.keeper image
+  pub began : Began kind ks image t.old
+  pub lines : List ℕ
+  pub whole : WasWhole kind began.replicas began.loaded t lines
+  pub synced : AreUpSynced kind began.replicas whole.middle t.new
+  pub handed : t.handed (whole.image ∷ [])
+
+-- nothing was handed over, or one such image
+abbrev pub HandsOne : {S : Type 0} → StoreKind S → Option (List ℕ) → RunSpan S → Type 0
+HandsOne kind names t = t.handed [] ⊎ HandsImage kind names t
+
 -- ---- what is said of it
 
 -- a sink, before a run and behind it
@@ -233,6 +253,11 @@ abbrev pub IsEndTold : {S O : Type 0} → StoreKind S → Option (List ℕ) → 
 IsEndTold kind names t s status (Ok lines) = HasHealed kind names t lines × SaysText lines 0 status (s.view s.old) (s.view s.new)
 IsEndTold kind names t s status (Err why) = IsEnd kind names t why × IsToldStop s status why
 
+-- How a run ended with this status, over the servers that its words name: the whole of what it promises of stores, keeper and sink.
+-- `ended` is what it came to. Where an image was healed and kept, or the keeper holds none, that is the two lines (`HasHealed`); else
+-- it is why nothing was kept (`IsEnd`), which says of each reason what causes it, and what was handed to the keeper for all that.
+-- What was written is the text of just that end: the two lines with 0, the line of this refusal with 6 and of this fault with 11,
+-- a front of one of these with 4, as the sink failed, and nothing with the others (`SaysText`, `IsToldStop`).
 pub record IsHealOver {S O : Type 0} (kind : StoreKind S) (names : Option (List ℕ)) (t : RunSpan S) (s : SinkSpan O) (status : ℕ) : Type 0 where
   pub ended : Result (List ℕ) Stop
   pub told : IsEndTold kind names t s status ended

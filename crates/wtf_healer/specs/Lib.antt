@@ -9,3 +9,5 @@ pub mod Lines
 pub mod Runs
 pub mod Steps
 pub mod Ends
+pub mod Heals
+pub mod Progress

@@ -1,6 +1,7 @@
 -- The regions of a store that are healed: what is put in their places, and why a region was not healed.
 use Rattle.std.specs.Prelude.{◌≡◌, ◌≢◌, ◌⊎◌, ℕ, ◌+◌, ◌≤◌, ◌<◌, ◌++◌, Bool, true, false, List, [], ◌∷◌, map, Option, None, Some, ⊤}
 use Rattle.std.specs.List.{All, AllPairs, Contains, sum_by}
+use Rattle.std.specs.declared.cmp.Ordering.TheVariants.{Less}
 use Rattle.wtf_base.specs.declared.fault.Fault.{Fault}
 use Rattle.wtf_base.specs.declared.fault.Fault.TheVariants as fault
 use Rattle.wtf_base.specs.declared.ids.InodeId.{InodeId}
@@ -11,10 +12,11 @@ use Rattle.wtf_overlay.specs.Clips.{Within, clip_list}
 use Rattle.wtf_overlay.specs.Compact.{IsCompact}
 use Rattle.wtf_overlay.specs.Origin.{Place, origin}
 use Rattle.wtf_overlay.specs.declared.part.Entry.{Entry}
-use Rattle.wtf_replica.specs.Faults.{AreAllOut, IsWriteFault}
+use Rattle.wtf_replica.specs.Faults.{AreAllOut}
 use Rattle.wtf_replica.specs.Spans.{Span}
 use Rattle.wtf_values.specs.declared.key.Key.{Key}
 use Rattle.wtf_values.specs.declared.key.Key.TheVariants.{Region}
+use Rattle.wtf_values.specs.Keys.{key_cmp}
 use Rattle.wtf_values.specs.declared.region.RegionValue.{RegionValue}
 use Rattle.wtf_values.specs.declared.region.Spill.{Spill}
 use Rattle.wtf_values.specs.declared.value.Value.TheVariants as value
@@ -28,7 +30,7 @@ use Rattle.wtf_region.specs.declared.dev.Dev.{Dev}
 use Rattle.wtf_region.specs.Devs.{is_down_in, between}
 use Rattle.wtf_healer.specs.Bases.{IsBaseRead, IsDamaged, inside_left}
 use Rattle.wtf_healer.specs.Sparse.{is_to_heal}
-use Rattle.wtf_healer.specs.Restored.{AreRestored, Grew, LacksEntry}
+use Rattle.wtf_healer.specs.Restored.{AreRestored, Grew, LacksEntry, LacksServers}
 use Rattle.wtf_healer.specs.declared.entries.Restored.{Restored}
 use Rattle.wtf_healer.specs.declared.regions.Healed.{Healed}
 
@@ -52,18 +54,18 @@ pub record HasNoSparse {S : Type 0} (kind : StoreKind S) (old new : Dev S) (v : 
   pub read : IsBaseRead kind old new v.base under
   pub whole : is_to_heal (is_down_in old) old.settings.replicas under v ≡ false
 
--- a region was healed: its compact list, of which the sparse entries were stored anew, is what is put in its place
-pub record IsHealed {S : Type 0} (kind : StoreKind S) (old new : Dev S) (v : RegionValue) (made : Restored) : Type 0 where
+-- The region at a key was healed: its compact list, of which the sparse entries were stored anew, is what is put in its place.
+pub record IsHealed {S : Type 0} (kind : StoreKind S) (old new : Dev S) (key : RegionKey) (v : RegionValue) (made : Restored) : Type 0 where
   pub under : List Entry
   pub read : IsBaseRead kind old new v.base under
   pub sparse : is_to_heal (is_down_in old) old.settings.replicas under v ≡ true
   pub short : List Entry
   pub short_is : IsCompacted v under short
-  pub restored : AreRestored kind old new short made.list made.bytes
+  pub restored : AreRestored kind old new key short made.list made.bytes
 
-abbrev pub IsHealedOr : {S : Type 0} → StoreKind S → (old new : Dev S) → RegionValue → Option Restored → Type 0
-IsHealedOr kind old new v None = HasNoSparse kind old new v
-IsHealedOr kind old new v (Some made) = IsHealed kind old new v made
+abbrev pub IsHealedOr : {S : Type 0} → StoreKind S → (old new : Dev S) → RegionKey → RegionValue → Option Restored → Type 0
+IsHealedOr kind old new key v None = HasNoSparse kind old new v
+IsHealedOr kind old new key v (Some made) = IsHealed kind old new key v made
 
 -- how many of its bytes were stored anew
 abbrev pub bytes_restored : Option Restored → ℕ
@@ -88,11 +90,20 @@ pub record LacksBytes {S : Type 0} (kind : StoreKind S) (old new : Dev S) (v : R
   pub short_is : IsCompacted v under short
   pub lacks : LacksEntry kind old new short k
 
+-- an entry that was to be stored anew was not stored, of a region that is to be healed
+pub record LacksCopies {S : Type 0} (kind : StoreKind S) (old new : Dev S) (v : RegionValue) : Type 0 where
+  pub under : List Entry
+  pub read : IsBaseRead kind old new v.base under
+  pub sparse : is_to_heal (is_down_in old) old.settings.replicas under v ≡ true
+  pub short : List Entry
+  pub short_is : IsCompacted v under short
+  pub lacks : LacksServers kind old new short
+
 -- why a region was not healed; memory may be short at any time
 abbrev pub IsRegionFault : {S : Type 0} → StoreKind S → (old new : Dev S) → RegionValue → Fault → Type 0
 IsRegionFault kind old new v (fault.Read k) = HealLacksBase kind (between old new) v.base k.0 ⊎ LacksBytes kind old new v k.0
 IsRegionFault kind old new v (fault.Damaged k) = HasDamage kind old new v.base k.0
-IsRegionFault kind old new v fault.Write = IsWriteFault kind (between old new) old.settings fault.Write
+IsRegionFault kind old new v fault.Write = LacksCopies kind old new v
 IsRegionFault kind old new v fault.Memory = ⊤
 IsRegionFault kind old new v other = ⊥
 
@@ -127,7 +138,7 @@ pub record IsPutFor {S : Type 0} (kind : StoreKind S) (old new : Dev S) (w : Map
   pub was : RegionValue
   pub there : w (Region p.key.inode p.key.region) ≡ Some (value.Region was)
   pub made : Restored
-  pub healed : IsHealed kind old new was made
+  pub healed : IsHealed kind old new p.key was made
   pub put : IsPutOf p.key was.end made p
 
 -- the region at a key was healed, and what is put there stands behind the other changes
@@ -150,6 +161,19 @@ pub record IsLeftAt {S : Type 0} (kind : StoreKind S) (t : Dev S × Dev S) (w : 
 abbrev pub IsHealedAt : {S : Type 0} → StoreKind S → Dev S × Dev S → Map → Key → (was now : Healed) → Type 0
 IsHealedAt kind t w key was now = IsPutAt kind t w key was now ⊎ IsLeftAt kind t w key was now
 
+-- the region at a key was not healed
+pub record LacksRegionAt {S : Type 0} (kind : StoreKind S) (t : Dev S × Dev S) (w : Map) (key : Key) (why : Fault) : Type 0 where
+  pub inode : InodeId
+  pub region : ℕ
+  pub value_is : RegionValue
+  pub key_is : key ≡ Region inode region
+  pub there : w (Region inode region) ≡ Some (value.Region value_is)
+  pub cause : IsRegionFault kind t.0 t.1 value_is why
+
+-- why the region at a key was not healed
+abbrev pub IsFaultAt : {S : Type 0} → StoreKind S → Dev S × Dev S → Map → Key → Fault → Type 0
+IsFaultAt kind t w key why = (why ≡ fault.Memory) ⊎ LacksRegionAt kind t w key why
+
 -- Each region of a map that has a sparse slice was healed, once, and no other one. So many bytes of them were stored anew.
 pub record AreHealed {S : Type 0} (kind : StoreKind S) (old new : Dev S) (w : Map) (h : Healed) : Type 0 where
   pub puts : List Put
@@ -161,13 +185,19 @@ pub record AreHealed {S : Type 0} (kind : StoreKind S) (old new : Dev S) (w : Ma
       → Contains (map (λ (p : Put). p.key) puts) (record { inode = i; region = r }) ⊎ HasNoSparse kind old new v
   pub grew : Grew kind old new h.bytes
 
--- why not all regions were healed: one of them was not
+-- no slice of the region at a key is sparse, or it was healed
+abbrev pub IsDone : {S : Type 0} → StoreKind S → (old new : Dev S) → RegionKey → RegionValue → Type 0
+IsDone kind old new key v = HasNoSparse kind old new v ⊎ ((made : Restored) × IsHealed kind old new key v made)
+
+-- why not all regions were healed: one of them was not, the first one in the order of keys
 pub record LacksRegion {S : Type 0} (kind : StoreKind S) (old new : Dev S) (w : Map) (why : Fault) : Type 0 where
   pub inode : InodeId
   pub region : ℕ
   pub value_is : RegionValue
   pub there : w (Region inode region) ≡ Some (value.Region value_is)
   pub cause : IsRegionFault kind old new value_is why
+  pub earlier : (i : InodeId) (r : ℕ) (v : RegionValue) → w (Region i r) ≡ Some (value.Region v)
+      → key_cmp (Region i r) (Region inode region) ≡ Less → IsDone kind old new (record { inode = i; region = r }) v
 
 abbrev pub IsHealFault : {S : Type 0} → StoreKind S → (old new : Dev S) → Map → Fault → Type 0
 IsHealFault kind old new w why = (why ≡ fault.Memory) ⊎ LacksRegion kind old new w why

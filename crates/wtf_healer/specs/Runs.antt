@@ -1,5 +1,5 @@
 -- What a run of the healer promises: which status it ends with, what it writes, and what it leaves of stores and keeper.
-use Rattle.std.specs.Prelude.{◌≡◌, ◌≢◌, ◌⊎◌, ℕ, ◌<◌, ◌+◌, ◌*◌, ◌^◌, Bool, true, false, List, [], ◌∷◌, ◌++◌, length, map, slice_index_or, nat_lt, if◌then◌else◌}
+use Rattle.std.specs.Prelude.{◌≡◌, ◌≢◌, ◌⊎◌, ℕ, ◌<◌, ◌^◌, Bool, true, false, List, [], ◌∷◌, ◌++◌, length, map, take, slice_index_or}
 use Rattle.std.specs.Prelude.{Option, None, Some, ⊤}
 use Rattle.std.specs.List.{All, AllPairs, Contains, sum_by}
 use Rattle.std.specs.Option.{option_map}
@@ -11,8 +11,6 @@ use Rattle.wtf_dev.specs.Counts.{Rose}
 use Rattle.wtf_dev.specs.Keep.{KeeperView}
 use Rattle.wtf_dev.specs.Store.{StoreKind}
 use Rattle.wtf_dev.specs.Streams.{SinkView}
-use Rattle.wtf_dev.specs.Sums.{all_stored}
-use Rattle.wtf_overlay.specs.Origin.{Place}
 use Rattle.wtf_overlay.specs.Spilled.{decoded}
 use Rattle.wtf_overlay.specs.declared.part.Entry.{Entry}
 use Rattle.wtf_replica.specs.Bytes.{byte_at}
@@ -32,7 +30,7 @@ use Rattle.wtf_image.specs.Loading.{AreSettingsOf, IsRefusalWithout, IsTaken}
 use Rattle.wtf_image.specs.Lookups.{plain, row_at}
 use Rattle.wtf_image.specs.Pictured.{IsImageOfTree}
 use Rattle.wtf_image.specs.Rows.{ImageRows}
-use Rattle.wtf_image.specs.Rules.{AreGoodSettings, size_in}
+use Rattle.wtf_image.specs.Rules.{AreGoodSettings}
 use Rattle.wtf_region.specs.declared.cache.RegionKey.{RegionKey}
 use Rattle.wtf_region.specs.declared.dev.Dev.{Dev}
 use Rattle.wtf_region.specs.Devs.{stores, is_down_in}
@@ -219,9 +217,9 @@ pub record IsHealedImage (now : Told) (size : ℕ → ℕ → ℕ) (lost : ℕ �
   pub live : IsLiveTree now lost kept t
   pub whole : IsWholeImage now lost kept
 
--- only servers of the image tell bytes: where there are more stores these hold none
-abbrev pub OnlyServersTell : Told → List ℕ → Type 0
-OnlyServersTell told bytes = (x : ImageRows) → HasText x bytes → (p : Place) (b : ℕ) → told p ≡ Some b → p.server < x.header.servers
+-- the tree of an image while servers are lost, by what the stores of its own servers tell: where there are more, these are not looked at
+abbrev pub IsLiveTreeIn : {S : Type 0} → StoreKind S → List S → (ℕ → Bool) → List ℕ → Tree → Type 0
+IsLiveTreeIn kind shelf lost bytes t = (x : ImageRows) → HasText x bytes → IsLiveTree (byte_at kind (take x.header.servers shelf)) lost bytes t
 
 -- the numbers of installs of an image leave room for one more
 abbrev pub HasNextNumber : List ℕ → Type 0
@@ -232,19 +230,3 @@ pub record AreTelling {S : Type 0} (kind : StoreKind S) (ks : List ℕ) (shelf :
   pub stores_tell : (k : ℕ) (d : S) → k < length shelf → is_server_in ks k ≡ false → (kind.view (slice_index_or shelf k d)).tells ≡ true
   pub keeper_tells : keeper.tells ≡ true
   pub held : keeper.held ≡ Some bytes
-
--- With status 0, over stores and a keeper that tell, an image whose tree without the lost servers is t became one that is healed. What
--- was to be healed is what the two lines say, and where no store failed all stores together grew by just that, once for each copy.
-pub record Heals {S : Type 0} (kind : StoreKind S) (ks : List ℕ) (old new : List S) (keeper : KeeperView) (t : Tree) (bytes : List ℕ)
-    (text : List ℕ) (written : Option (List ℕ)) : Type 0 where
-  pub kept : List ℕ
-  pub held : keeper.held ≡ Some kept
-  pub image : IsHealedImage (byte_at kind new) (size_in kind new) (is_server_in ks) t bytes kept
-  pub regions : ℕ
-  pub anew : ℕ
-  pub counted : AreToHeal (byte_at kind old) (is_server_in ks) bytes regions anew
-  pub wrote : written ≡ Some (text ++ done_lines regions anew)
-  -- all regions were healed in one install, and where none was there is none
-  pub installs : (x y : ImageRows) → HasText x bytes → HasText y kept → y.header.installs ≡ x.header.installs + (if nat_lt 0 regions then 1 else 0)
-  pub grew : ((k : ℕ) → HasRisen kind old new k → ⊥) → (x : ImageRows) → HasText x bytes
-      → all_stored kind new ≡ all_stored kind old + x.header.replicas * anew

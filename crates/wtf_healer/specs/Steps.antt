@@ -1,5 +1,5 @@
 -- What the parts of a run promise to each other.
-use Rattle.std.specs.Prelude.{◌≡◌, ◌⊎◌, ℕ, ◌+◌, ◌<◌, List, [], length, nat_lt, if◌then◌else◌, false}
+use Rattle.std.specs.Prelude.{◌≡◌, ◌⊎◌, ℕ, ◌+◌, ◌<◌, List, [], ◌∷◌, length, nat_lt, if◌then◌else◌, false}
 use Rattle.wtf_base.specs.declared.settings.Settings.{Settings}
 use Rattle.wtf_dev.specs.Counts.{Rose}
 use Rattle.wtf_dev.specs.Keep.{KeeperView}
@@ -9,7 +9,7 @@ use Rattle.wtf_kv.specs.declared.changes.Change.{Change}
 use Rattle.wtf_kv.specs.Stores.{Store}
 use Rattle.wtf_replica.specs.declared.replicas.Replicas.{Replicas}
 use Rattle.wtf_replica.specs.Downs.{settings_of, is_down}
-use Rattle.wtf_replica.specs.Outs.{HasRisen}
+use Rattle.wtf_replica.specs.Outs.{HasRisen, HasSynced}
 use Rattle.wtf_values.specs.declared.value.Delta.{Delta}
 use Rattle.wtf_values.specs.declared.key.Key.{Key}
 use Rattle.wtf_values.specs.declared.value.Value.{Value}
@@ -29,11 +29,23 @@ pub record IsPutIn (changes : List (Change Key Delta)) (old new : Store Key Valu
   pub number : new.number ≡ old.number + (if nat_lt 0 (length changes) then 1 else 0)
   pub map : metadata_at new new.number ≡ with changes (metadata_at old old.number)
 
--- in the closing sync a store of these settings that is up failed, and nothing was handed to the keeper; or the keeper failed
-abbrev pub IsKeepFault : {S K : Type 0} → StoreKind S → (K → KeeperView) → Replicas → List S × K → List S × K → Type 0
-IsKeepFault kind view replicas (before, old) (after, new) =
-    ((k : ℕ) × (k < (settings_of replicas).servers) × (is_down replicas k ≡ false) × HasRisen kind before after k × (new ≡ old))
-    ⊎ Rose (view old).faults (view new).faults
+-- all stores of servers that are up were synced
+abbrev pub AreUpSynced : {S : Type 0} → StoreKind S → Replicas → (before after : List S) → Type 0
+AreUpSynced kind replicas before after =
+    (k : ℕ) → k < (settings_of replicas).servers → is_down replicas k ≡ false → HasSynced kind before after k
+
+-- a store of a server that is up failed
+abbrev pub HasUpFailed : {S : Type 0} → StoreKind S → Replicas → (before after : List S) → Type 0
+HasUpFailed kind replicas before after =
+    (k : ℕ) × (k < (settings_of replicas).servers) × (is_down replicas k ≡ false) × HasRisen kind before after k
+
+-- a store of a server that is up failed, and the keeper was not touched; or all of them were synced, the image was handed to the keeper,
+-- and that failed
+abbrev pub IsKeepFault : {S K : Type 0} → StoreKind S → (K → KeeperView) → (K → K → List (List ℕ) → Type 0) → Replicas → List ℕ → List S × K → List S × K
+    → Type 0
+IsKeepFault kind view follows replicas image (before, old) (after, new) =
+    (HasUpFailed kind replicas before after × (new ≡ old))
+    ⊎ (AreUpSynced kind replicas before after × follows old new (image ∷ []) × Rose (view old).faults (view new).faults)
 
 -- these stores are lent to these servers, for these settings
 pub record IsLentTo {S : Type 0} (shelf : List S) (replicas : Replicas) (settings : Settings) (dev : Dev S) : Type 0 where

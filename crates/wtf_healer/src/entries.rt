@@ -51,7 +51,7 @@ fn stored<S: SliceStore>(
     requires inside { EntryBytes (inside_left S.kind dev.old) e }
     requires region { key.region < MAX_REGIONS }
     requires within { e.off + e.len ≤ dev.old.settings.region }
-    ensures stored { IfOk result (IsStoredFor S.kind dev.old dev.new e) }
+    ensures stored { IfOk result (IsStoredFor S.kind dev.old dev.new key e) }
     ensures fault { IfErr result (IsAnewFault S.kind dev.old dev.new e) }
     ensures stores { OnlyStored S.kind (between dev.old dev.new) }
     ensures dev { GoesOn S.kind dev.old dev.new [] }
@@ -76,7 +76,7 @@ fn restore_one<S: SliceStore>(
     requires inside { EntryBytes (inside_left S.kind dev.old) e }
     requires region { key.region < MAX_REGIONS }
     requires within { e.off + e.len ≤ dev.old.settings.region }
-    ensures restored { IfOk result (IsRestored S.kind dev.old dev.new e) }
+    ensures restored { IfOk result (IsRestored S.kind dev.old dev.new key e) }
     ensures fault { IfErr result (IsRestoreFault S.kind dev.old dev.new (e ∷ [])) }
     ensures stores { OnlyStored S.kind (between dev.old dev.new) }
     ensures dev { GoesOn S.kind dev.old dev.new [] }
@@ -110,7 +110,7 @@ pub(crate) fn restore<S: SliceStore>(
     requires within { Within dev.old.settings.region list.now }
     requires few { length list.now < 2 ^ 31 }
     ensures restored { IfOk result (λ made.
-        AreRestored S.kind dev.old dev.new list.now made.list made.bytes) }
+        AreRestored S.kind dev.old dev.new key list.now made.list made.bytes) }
     ensures grew { IfOk result (λ made. Grew S.kind dev.old dev.new made.bytes) }
     ensures fault { IfErr result (IsRestoreFault S.kind dev.old dev.new list.now) }
     ensures stores { OnlyStored S.kind (between dev.old dev.new) }
@@ -162,7 +162,7 @@ fn add<S: SliceStore>(
     requires region { key.region < MAX_REGIONS }
     requires within { e.off + e.len ≤ dev.old.settings.region }
     ensures added { OnOk result ((made : entry_type.Entry) ×
-        IsRestored S.kind dev.old dev.new e made × (list.new ≡ list.old ++ made ∷ [])) }
+        IsRestored S.kind dev.old dev.new key e made × (list.new ≡ list.old ++ made ∷ [])) }
     ensures bytes { IfOk result (λ n.
         n ≡ sparse_bytes (is_down_in dev.old) dev.old.settings.replicas (e ∷ [])) }
     ensures fault { IfErr result (IsRestoreFault S.kind dev.old dev.new (e ∷ [])) }

@@ -11,12 +11,17 @@
 //!
 //! The rule: with status 0, where stores and keeper tell, the keeper holds an image that breaks no rule over
 //! the stores as they are left, with the settings and the tree that were left, and no slice of it is sparse
-//! (`healed`). One image at most is handed over, and only once all stores that are left are synced (`handed`,
-//! `synced`). Stores only grow, and nothing is punched (`follows`).
+//! (`healed`). With each status nothing is handed to the keeper, or one image: that of a whole pass, behind
+//! whose last byte all stores that are left were synced (`handed`). Stores only grow, and nothing is punched
+//! (`follows`).
 //!
-//! The two lines that are written count just what was healed. Each status has its cause (`words`, `refused`,
-//! `image`, `save_cause`, `fault_cause`); where no device failed and the devices tell what was left, no other
-//! comes than 0, and 2, 6 and 7 (`complete`).
+//! How a run ends is one clause (`over`), over devices that tell nothing too: what it came to and why, what was
+//! written of just that, and what the keeper was handed. The other clauses say what follows for one status; the
+//! two lines count just what was to be healed. Where no device failed, and the stores of the image's servers
+//! tell what was left, no status comes but 0, 2, 6 and 7 (`complete`).
+//!
+//! While a pass goes on a second sink is given the two lines of what is healed so far, each time another 256
+//! regions are, and nothing else (`progress`, `silent`, `idle`).
 #![tactic(auto)]
 
 mod base;

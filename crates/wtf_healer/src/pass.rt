@@ -1,19 +1,19 @@
 //! A pass over all regions of a store that was loaded, and how its outcome is kept.
 
-ghost use Rattle.std.specs.Prelude.{◌≡◌, ◌<◌, ◌≤◌, ◌^◌, ◌⊎◌, ℕ, [], true, false, Some, length, IfOk, IfErr, OnOk};
-ghost use Rattle.wtf_base.specs.declared.fault.Fault.TheVariants as fault;
+ghost use Rattle.std.specs.Prelude.{◌≡◌, ◌<◌, ◌≤◌, ◌^◌, ◌⊎◌, ◌∷◌, [], true, false, Some, length, IfOk, IfErr, OnOk};
 ghost use Rattle.wtf_dev.specs.Each.{EachFollows};
 ghost use Rattle.wtf_image.specs.Kept.{IsKept};
 ghost use Rattle.wtf_image.specs.Savable.{IsSavable};
 ghost use Rattle.wtf_image.specs.Saving.{IsSaveOf};
 ghost use Rattle.wtf_image.specs.Tables.{shown};
 ghost use Rattle.wtf_meta.specs.Maps.{metadata_at};
-ghost use Rattle.wtf_replica.specs.Downs.{settings_of, is_down, during};
-ghost use Rattle.wtf_replica.specs.Outs.{HasSynced, IsLeftDown, SameFrom, SameLengths};
-ghost use Rattle.wtf_healer.specs.Ends.{AreHanded, run_span, OnlyHealed, WasMade, IsMakeStop, WasKept, IsPassStop};
+ghost use Rattle.wtf_replica.specs.Downs.{settings_of, during};
+ghost use Rattle.wtf_replica.specs.Outs.{IsLeftDown, SameFrom, SameLengths};
+ghost use Rattle.wtf_healer.specs.Ends.{run_span, OnlyHealed, WasMade, IsMakeStop, WasKept, IsPassStop};
 ghost use Rattle.wtf_healer.specs.Lines.{done_lines};
+ghost use Rattle.wtf_healer.specs.Progress.{TellsProgress};
 ghost use Rattle.wtf_healer.specs.Regions.{AreHealed, IsHealFault};
-ghost use Rattle.wtf_healer.specs.Steps.{IsPutIn, IsKeepFault, CanHealOver, Passed};
+ghost use Rattle.wtf_healer.specs.Steps.{IsPutIn, AreUpSynced, IsKeepFault, CanHealOver, Passed};
 
 use crate::ends::Stop;
 use crate::lines::done;
@@ -90,13 +90,13 @@ fn keep<S: SliceStore, K: Keeper>(
     image: &[u8],
 ) -> bool
     requires { (settings_of replicas.now).servers ≤ length shelf.old }
-    ensures synced { result ≡ true → (k : ℕ) → k < (settings_of replicas.now).servers →
-        is_down replicas.now k ≡ false → HasSynced S.kind shelf.old shelf.new k }
+    ensures synced { result ≡ true → AreUpSynced S.kind replicas.now shelf.old shelf.new }
+    ensures handed { result ≡ true → K.follows keeper.old keeper.new (image.now ∷ []) }
     ensures held { result ≡ true → (K.view keeper.old).tells ≡ true →
         (K.view keeper.new).held ≡ Some image.now }
     ensures cause { result ≡ false →
-        IsKeepFault S.kind K.view replicas.now (shelf.old, keeper.old) (shelf.new, keeper.new) }
-    ensures handed { AreHanded (K.follows keeper.old keeper.new) }
+        IsKeepFault S.kind K.view K.follows replicas.now image.now (shelf.old, keeper.old)
+        (shelf.new, keeper.new) }
     ensures down { IsLeftDown (during replicas.now shelf.old shelf.new) }
     ensures past { SameFrom (settings_of replicas.now).servers shelf.old shelf.new }
     ensures lengths { SameLengths S.kind shelf.old shelf.new }
@@ -129,6 +129,7 @@ fn heal_over<P: Sink, S: SliceStore>(
     requires shelf { loaded.now.settings.servers ≤ length shelf.old }
     requires can { CanHealOver S.kind shelf.old replicas.now loaded.now.settings
         (metadata_at loaded.now.kv loaded.now.kv.number) }
+    ensures progress { TellsProgress (P.view progress.old) (P.view progress.new) }
     ensures healed { IfOk result (λ healed. Passed S.kind replicas.now loaded.now.settings
         shelf.old shelf.new (λ before after. AreHealed S.kind before after
         (metadata_at loaded.now.kv loaded.now.kv.number) healed)) }
@@ -163,6 +164,7 @@ fn heal_loaded<P: Sink, S: SliceStore>(
     requires shelf { loaded.now.settings.servers ≤ length shelf.old }
     requires can { CanHealOver S.kind shelf.old replicas.now loaded.now.settings
         (metadata_at loaded.now.kv loaded.now.kv.number) }
+    ensures progress { TellsProgress (P.view progress.old) (P.view progress.new) }
     ensures healed { IfOk result (λ healed. Passed S.kind replicas.now loaded.now.settings
         shelf.old shelf.new (λ before after. AreHealed S.kind before after
         (metadata_at loaded.now.kv loaded.now.kv.number) healed)) }
@@ -202,6 +204,7 @@ fn made_of<P: Sink, S: SliceStore>(
         kept.image.items kept.lines.items) }
     ensures stopped { IfErr result (IsMakeStop S.kind replicas.now loaded.old shelf.old shelf.new) }
     ensures only { OnlyHealed S.kind replicas.now shelf.old shelf.new }
+    ensures progress { TellsProgress (P.view progress.old) (P.view progress.new) }
 {
     let healed = match heal_loaded(alloc, replicas, &*loaded, shelf, progress) {
         Ok(healed) => healed,
@@ -233,8 +236,8 @@ pub(crate) fn run_on<P: Sink, S: SliceStore, K: Keeper>(
         (run_span K.view K.follows (shelf.old, keeper.old) (shelf.new, keeper.new)) lines.items) }
     ensures stopped { IfErr result (IsPassStop S.kind replicas.now loaded.old
         (run_span K.view K.follows (shelf.old, keeper.old) (shelf.new, keeper.new))) }
-    ensures handed { AreHanded (K.follows keeper.old keeper.new) }
     ensures only { OnlyHealed S.kind replicas.now shelf.old shelf.new }
+    ensures progress { TellsProgress (P.view progress.old) (P.view progress.new) }
 {
     let kept = match made_of(alloc, replicas, loaded, shelf, progress) {
         Ok(kept) => kept,

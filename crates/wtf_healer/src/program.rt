@@ -7,10 +7,12 @@ ghost use Rattle.wtf_dev.specs.Each.{EachFollows};
 ghost use Rattle.wtf_image.specs.Rules.{size_in};
 ghost use Rattle.wtf_model.specs.Tree.{Tree};
 ghost use Rattle.wtf_replica.specs.Bytes.{byte_at};
-ghost use Rattle.wtf_healer.specs.Ends.{AreHanded, AreLostSame, GoesBy, run_span, sink_span, IsHealOver, IsLoadedFor, IsLoadStop, WasHealed, IsStop, HasHealed, IsEnd};
+ghost use Rattle.wtf_healer.specs.Ends.{AreLostSame, GoesBy, HandsOne, run_span, sink_span, IsHealOver, IsLoadedFor, IsLoadStop, WasHealed, IsStop, HasHealed, IsEarly, IsEnd};
+ghost use Rattle.wtf_healer.specs.Heals.{Heals};
 ghost use Rattle.wtf_healer.specs.Lines.{done_lines, fault_line};
 ghost use Rattle.wtf_healer.specs.Live.{IsLiveTree};
-ghost use Rattle.wtf_healer.specs.Runs.{IsHealStatus, IsQuiet, IsUnkept, IsUntouched, WroteReport, AreRefused, IsRefusedImage, IsSaveFault, AreSynced, HasFault, HasNextNumber, AreTelling, Heals, NoFaultRose, OnlyServersTell};
+ghost use Rattle.wtf_healer.specs.Progress.{TellsProgress};
+ghost use Rattle.wtf_healer.specs.Runs.{IsHealStatus, IsQuiet, IsUnkept, IsUntouched, WroteReport, AreRefused, IsRefusedImage, IsSaveFault, AreSynced, HasFault, HasNextNumber, AreTelling, NoFaultRose, IsLiveTreeIn};
 ghost use Rattle.wtf_healer.specs.Spared.{IsLostOf};
 ghost use Rattle.wtf_healer.specs.Words.{lost_in, is_server_in};
 ghost use Rattle.wtf_healer.specs.declared.ends.Stop.TheVariants as stop;
@@ -66,6 +68,8 @@ fn run_of<P: Sink, S: SliceStore, K: Keeper>(
         (run_span K.view K.follows (shelf.old, keeper.old) (shelf.new, keeper.new))) }
     ensures goes { (ks : List ℕ) → IsLostOf ks lost → GoesBy S.kind (Some ks)
         (run_span K.view K.follows (shelf.old, keeper.old) (shelf.new, keeper.new)) }
+    ensures progress { TellsProgress (P.view progress.old) (P.view progress.new) }
+    ensures early { IfErr result (λ why. IsEarly why → progress.new ≡ progress.old) }
 {
     let mut loaded = match load_spared(alloc, lost, image, &*shelf) {
         Ok(loaded) => loaded,
@@ -103,6 +107,9 @@ fn run<P: Sink, S: SliceStore, K: Keeper>(
         (run_span K.view K.follows (shelf.old, keeper.old) (shelf.new, keeper.new))) }
     ensures goes { GoesBy S.kind (lost_in (map string_bytes words.now))
         (run_span K.view K.follows (shelf.old, keeper.old) (shelf.new, keeper.new)) }
+    ensures progress { TellsProgress (P.view progress.old) (P.view progress.new) }
+    ensures early { IfErr result (λ why. IsEarly why → progress.new ≡ progress.old) }
+    ensures idle { (K.view keeper.old).held ≡ Some [] → progress.new ≡ progress.old }
 {
     let Some(lost) = lost_by(words) else {
         return Err(Stop::Words);
@@ -134,6 +141,9 @@ fn heal_and_tell<O: Sink, P: Sink, S: SliceStore, K: Keeper>(
         (sink_span O.view out.old out.new) result }
     ensures goes { GoesBy S.kind (lost_in (map string_bytes words.now))
         (run_span K.view K.follows (shelf.old, keeper.old) (shelf.new, keeper.new)) }
+    ensures progress { TellsProgress (P.view progress.old) (P.view progress.new) }
+    ensures silent { IsUntouched result → progress.new ≡ progress.old }
+    ensures idle { (K.view keeper.old).held ≡ Some [] → progress.new ≡ progress.old }
 {
     let ended = run(alloc, words, shelf, keeper, progress);
     let status = tell(alloc, out, ended);
@@ -151,6 +161,9 @@ fn heal_and_tell<O: Sink, P: Sink, S: SliceStore, K: Keeper>(
 /// where writing failed; 5 where a store or the keeper failed as the image was kept; 6 where the image is refused, by a line that says
 /// why; 7 for want of memory; 8 where the keeper could not be loaded; and 11 where bytes could not be read or stored, or a list was
 /// damaged, by a line that says which. An empty keeper has nothing to heal.
+///
+/// `progress` is given the two lines of what is healed so far, each time another 256 regions are. Where it takes none, nothing is made
+/// of that.
 pub fn wtf_heal<O: Sink, P: Sink, S: SliceStore, K: Keeper>(
     alloc: Global,
     words: &[String],
@@ -159,6 +172,9 @@ pub fn wtf_heal<O: Sink, P: Sink, S: SliceStore, K: Keeper>(
     keeper: &mut K,
     progress: &mut P,
 ) -> u8
+    ensures over { IsHealOver S.kind (lost_in (map string_bytes words.now))
+        (run_span K.view K.follows (shelf.old, keeper.old) (shelf.new, keeper.new))
+        (sink_span O.view out.old out.new) result }
     ensures statuses { IsHealStatus result }
     ensures words { lost_in (map string_bytes words.now) ≡ None → result ≡ 2 }
     ensures refused { (held : List ℕ) → (K.view keeper.old).held ≡ Some held →
@@ -174,7 +190,8 @@ pub fn wtf_heal<O: Sink, P: Sink, S: SliceStore, K: Keeper>(
     ensures still { result ≢ 4 → (O.view out.new).faults ≡ (O.view out.old).faults }
     ensures untouched { IsUntouched result → shelf.new ≡ shelf.old }
     ensures unkept { IsUnkept result → K.follows keeper.old keeper.new [] }
-    ensures handed { AreHanded (K.follows keeper.old keeper.new) }
+    ensures handed { HandsOne S.kind (lost_in (map string_bytes words.now))
+        (run_span K.view K.follows (shelf.old, keeper.old) (shelf.new, keeper.new)) }
     ensures empty { (K.view keeper.old).held ≡ Some [] →
         (result ≢ 5) × (result ≢ 6) × (result ≢ 11) × (shelf.new ≡ shelf.old) ×
         K.follows keeper.old keeper.new [] }
@@ -204,16 +221,19 @@ pub fn wtf_heal<O: Sink, P: Sink, S: SliceStore, K: Keeper>(
         lost_in (map string_bytes words.now) ≡ Some ks → held ≢ [] →
         AreTelling S.kind ks shelf.old (K.view keeper.old) held → HasNextNumber held →
         IsLiveTree (byte_at S.kind shelf.old) (is_server_in ks) held t → result ≡ 0 →
-        (text : List ℕ) → (O.view out.old).taken ≡ Some text →
-        Heals S.kind ks shelf.old shelf.new (K.view keeper.new) t held text (O.view out.new).taken }
+        Heals S.kind ks
+        (run_span K.view K.follows (shelf.old, keeper.old) (shelf.new, keeper.new))
+        (sink_span O.view out.old out.new) t held }
     ensures complete { (held ks : List ℕ) (t : Tree) →
         lost_in (map string_bytes words.now) ≡ Some ks → held ≢ [] →
         AreTelling S.kind ks shelf.old (K.view keeper.old) held →
-        IsLiveTree (byte_at S.kind shelf.old) (is_server_in ks) held t →
-        OnlyServersTell (byte_at S.kind shelf.old) held →
+        IsLiveTreeIn S.kind shelf.old (is_server_in ks) held t →
         NoFaultRose S.kind (O.view out.old, shelf.old, K.view keeper.old)
         (O.view out.new, shelf.new, K.view keeper.new) →
         (result ≡ 0) ⊎ (result ≡ 2) ⊎ (result ≡ 6) ⊎ (result ≡ 7) }
+    ensures progress { TellsProgress (P.view progress.old) (P.view progress.new) }
+    ensures silent { IsUntouched result → progress.new ≡ progress.old }
+    ensures idle { (K.view keeper.old).held ≡ Some [] → progress.new ≡ progress.old }
 {
     let status = heal_and_tell(alloc, words, out, shelf, keeper, progress);
     status

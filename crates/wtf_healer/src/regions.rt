@@ -1,6 +1,6 @@
 //! The regions of a store are healed, one after another.
 
-ghost use Rattle.std.specs.Prelude.{◌≡◌, ◌+◌, ◌*◌, ◌<◌, ◌≤◌, ◌^◌, ◌++◌, ◌∷◌, [], Some, length, IfOk, IfErr, OnOk};
+ghost use Rattle.std.specs.Prelude.{◌≡◌, ◌+◌, ◌*◌, ◌<◌, ◌≤◌, ◌^◌, ◌++◌, ◌∷◌, ℕ, [], Some, length, IfOk, IfErr, OnOk, OnErr};
 ghost use Rattle.wtf_kv.specs.Stores.{is_live};
 ghost use Rattle.wtf_overlay.specs.Clips.{Within};
 ghost use Rattle.wtf_model.specs.declared.limits.TheConstants.{MAX_REGIONS};
@@ -8,8 +8,9 @@ ghost use Rattle.wtf_meta.specs.Bytes.{RegionBytes, any_slice};
 ghost use Rattle.wtf_meta.specs.Maps.{metadata_at};
 ghost use Rattle.wtf_region.specs.Devs.{IsSoundDev, GoesOn, between};
 ghost use Rattle.wtf_healer.specs.Bases.{inside_left};
+ghost use Rattle.wtf_healer.specs.Progress.{IsProgress, TellsProgress};
 ghost use Rattle.wtf_healer.specs.Restored.{Grew, OnlyStored};
-ghost use Rattle.wtf_healer.specs.Regions.{Put, change_of, IsPutOf, bytes_restored, list_over, IsCompacted, IsHealedOr, IsRegionFault, CanHeal, IsHealedAt, AreHealed, IsHealFault};
+ghost use Rattle.wtf_healer.specs.Regions.{Put, change_of, IsPutOf, bytes_restored, list_over, IsCompacted, IsHealedOr, IsRegionFault, CanHeal, IsHealedAt, IsFaultAt, AreHealed, IsHealFault};
 ghost use Rattle.std.specs.Option.{option_copied};
 ghost use Rattle.wtf_meta.specs.FileEdits.{region_of};
 
@@ -79,7 +80,7 @@ fn healed_list<S: SliceStore>(
     requires inside { RegionBytes (inside_left S.kind dev.old) any_slice value.now }
     requires region { key.region < MAX_REGIONS }
     requires size { value.now.end ≤ dev.old.settings.region }
-    ensures healed { IfOk result (IsHealedOr S.kind dev.old dev.new value.now) }
+    ensures healed { IfOk result (IsHealedOr S.kind dev.old dev.new key value.now) }
     ensures grew { IfOk result (λ made. Grew S.kind dev.old dev.new (bytes_restored made)) }
     ensures fault { IfErr result (IsRegionFault S.kind dev.old dev.new value.now) }
     ensures stores { OnlyStored S.kind (between dev.old dev.new) }
@@ -147,7 +148,10 @@ fn region_in(value: Option<&Value>) -> Option<&RegionValue>
 }
 
 /// Writes the two lines of a pass for what is healed so far, each time another 256 regions are. Where that fails no more is said of it.
-fn tell_progress<P: Sink>(alloc: Global, progress: &mut P, healed: &Healed) {
+fn tell_progress<P: Sink>(alloc: Global, progress: &mut P, healed: &Healed)
+    ensures { (n : ℕ) → n < length healed.now.changes →
+        IsProgress n (length healed.now.changes) (P.view progress.old) (P.view progress.new) }
+{
     if healed.changes.len() % REGIONS_TOLD != 0 {
         return;
     }
@@ -174,8 +178,11 @@ fn heal_at<P: Sink, S: SliceStore>(
     requires can { CanHeal S.kind dev.old (metadata_at kv.now kv.now.number) }
     ensures at { OnOk result (IsHealedAt S.kind (dev.old, dev.new)
         (metadata_at kv.now kv.now.number) key.now healed.old healed.new) }
-    ensures fault { IfErr result
-        (IsHealFault S.kind dev.old dev.new (metadata_at kv.now kv.now.number)) }
+    ensures progress { OnOk result (IsProgress (length healed.old.changes)
+        (length healed.new.changes) (P.view progress.old) (P.view progress.new)) }
+    ensures silent { OnErr result (progress.new ≡ progress.old) }
+    ensures fault { IfErr result (IsFaultAt S.kind (dev.old, dev.new)
+        (metadata_at kv.now kv.now.number) key.now) }
     ensures stores { OnlyStored S.kind (between dev.old dev.new) }
     ensures dev { GoesOn S.kind dev.old dev.new [] }
 {
@@ -215,6 +222,7 @@ pub(crate) fn heal_all<P: Sink, S: SliceStore>(
     requires can { CanHeal S.kind dev.old (metadata_at kv.now kv.now.number) }
     ensures healed { IfOk result
         (AreHealed S.kind dev.old dev.new (metadata_at kv.now kv.now.number)) }
+    ensures progress { TellsProgress (P.view progress.old) (P.view progress.new) }
     ensures fault { IfErr result
         (IsHealFault S.kind dev.old dev.new (metadata_at kv.now kv.now.number)) }
     ensures stores { OnlyStored S.kind (between dev.old dev.new) }

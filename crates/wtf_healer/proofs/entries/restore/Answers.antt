@@ -46,8 +46,8 @@ loop-i-preserved g c =
     record {
       goes = goes_on laws known.goes c.add.ensures.dev;
       stores = stores_over laws old mid new known.goes known.stores c.add.ensures.stores;
-      done = subst (λ (xs : List Entry). AreRestored kind old new xs c.add.new.list (c.loop-i.bytes + c.in-Ok-add.more)) (sym takes)
-          (restored_more laws old mid new known.goes c.add.ensures.dev (take i es) c.loop-i.made c.add.new.list c.loop-i.bytes
+      done = subst (λ (xs : List Entry). AreRestored kind old new c.args.key xs c.add.new.list (c.loop-i.bytes + c.in-Ok-add.more)) (sym takes)
+          (restored_more laws old mid new known.goes c.add.ensures.dev c.args.key (take i es) c.loop-i.made c.add.new.list c.loop-i.bytes
           (c.loop-i.bytes + c.in-Ok-add.more) e added.0
           known.done added.1 added.2 (ap (λ n. c.loop-i.bytes + n) c.in-Ok-add.ensures.bytes));
       grew = grew_on laws old mid new known.goes c.add.ensures.dev c.loop-i.bytes c.in-Ok-add.more known.grew

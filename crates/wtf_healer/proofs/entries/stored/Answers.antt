@@ -1,8 +1,8 @@
 use Rattle.std.proofs.lemmas.Result.{IfOk-weaker, IfErr-weaker}
 use Rattle.wtf_replica.specs.Faults.{IsWriteFault}
-use Rattle.wtf_region.specs.Devs.{between, place_in}
+use Rattle.wtf_region.specs.Devs.{between}
 use Rattle.wtf_region.proofs.Spans.{goes_on}
-use Rattle.wtf_healer.specs.Restored.{IsStoredFor, IsAnewFault}
+use Rattle.wtf_healer.specs.Restored.{place_for, IsStoredFor, IsAnewFault}
 use Rattle.wtf_healer.proofs.Faulting.{anew_read, anew_write}
 use Rattle.wtf_healer.proofs.Restoring.{Made, made_of, stored_for}
 use Rattle.wtf_healer.proofs.entries.stored.Goals as goal
@@ -28,9 +28,9 @@ returns-clause-stored g c =
     let mid = c.bytes_of.new.dev in
     let new = c.store_bytes-made.new.dev in
     let v = c.in-Ok.bytes.items in
-    let place = place_in mid c.args.key.inode _ in
-    IfOk-weaker c.store_bytes-made.result (Made kind mid new place v) (IsStoredFor kind old new c.args.e)
-    (λ s h. stored_for g.met.S.SliceStore.laws old mid new c.bytes_of.ensures.dev c.bytes_of.ensures.reads c.store_bytes-made.ensures.dev c.args.e v
-    c.in-Ok.ensures.live place s h.stored h.inside h.known)
+    let place = place_for mid c.args.key c.args.e in
+    IfOk-weaker c.store_bytes-made.result (Made kind mid new place v) (IsStoredFor kind old new c.args.key c.args.e)
+    (λ s h. stored_for g.met.S.SliceStore.laws old mid new c.bytes_of.ensures.dev c.bytes_of.ensures.reads c.store_bytes-made.ensures.dev c.args.key c.args.e
+    v c.in-Ok.ensures.live s h.stored h.inside h.known)
     (made_of kind mid new place v c.store_bytes-made.result (rw c.as_slice.ensures.value at c.store_bytes-made.ensures.stored)
     c.store_bytes-made.ensures.inside c.store_bytes-made.ensures.known)

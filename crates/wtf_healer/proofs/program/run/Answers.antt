@@ -51,3 +51,9 @@ returns-clause-goes g c =
     goes_late g.S.SliceStore.kind g.K.Keeper.view g.K.Keeper.follows g.met.K.Keeper.follows_on a b ended.new.keeper c.load.ensures.follows
     (g.met.K.Keeper.keeps a b [] c.load.ensures.follows) c.args.shelf.now ended.new.shelf (lost_in (map (string_bytes {Z = Global}) c.args.words.now)) ks
     c.in-Some.ensures.1 (ended.ensures.goes ks c.in-Some.ensures.2)
+
+pub returns-clause-idle : goal.returns-clause-idle
+returns-clause-idle g c none =
+    let image = c.as_slice.result.now in
+    absurd (some_bytes image _ (sym (c.is_empty.ensures) ∙ c.if-is_empty.false) c.as_slice.ensures.len
+    (c.as_slice.ensures.value ∙ c.in-Ok.ensures.bytes [] none))

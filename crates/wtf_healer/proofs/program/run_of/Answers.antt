@@ -1,7 +1,7 @@
-use Rattle.std.proofs.Common.{Some, refl}
+use Rattle.std.proofs.Common.{◌≡◌, Some, refl}
 use Rattle.std.proofs.lemmas.Result.{IfOk-weaker, IfErr-weaker}
-use Rattle.wtf_healer.specs.Ends.{run_span, WasKept, WasHealed, IsPassStop, IsStop}
-use Rattle.wtf_healer.proofs.Stopping.{stop_before, stop_over, goes_untouched, goes_healed, began, can, lost_stay}
+use Rattle.wtf_healer.specs.Ends.{run_span, WasKept, WasHealed, IsEarly, IsPassStop, IsStop}
+use Rattle.wtf_healer.proofs.Stopping.{not_early, stop_before, stop_over, goes_untouched, goes_healed, began, can, lost_stay}
 use Rattle.wtf_healer.proofs.program.run_of.Goals as goal
 
 pub returns-in-Err-clause-stopped : goal.returns-in-Err-clause-stopped
@@ -15,7 +15,6 @@ pub returns-in-Err-clause-goes : goal.returns-in-Err-clause-goes
 returns-in-Err-clause-goes g c ks of =
     let keeper = c.args.keeper.now in
     goes_untouched g.met.S.SliceStore.laws (Some ks) (run_span g.K.Keeper.view g.K.Keeper.follows (c.args.shelf.now, keeper) (c.args.shelf.now, keeper)) refl
-    (g.met.K.Keeper.follows_itself keeper)
 
 pub run_on-ended-requires-clause-can : goal.run_on-ended-requires-clause-can
 run_on-ended-requires-clause-can g c =
@@ -55,4 +54,13 @@ returns-clause-goes g c ks of =
     goes_healed kind ks (run_span g.K.Keeper.view g.K.Keeper.follows (c.args.shelf.now, c.args.keeper.now) (ended.new.shelf, ended.new.keeper)) made.result
     ended.ensures.only
     (lost_stay kind ks c.args.lost of c.args.image.now c.args.shelf.now c.in-Ok.loaded (c.in-Ok.ensures.loaded ks of) made.result made.ensures.settings
-    made.ensures.down made.ensures.none ended.new.shelf ended.ensures.only) ended.ensures.handed
+    made.ensures.down made.ensures.none ended.new.shelf ended.ensures.only)
+
+pub returns-clause-early : goal.returns-clause-early
+returns-clause-early g c =
+    let kind = g.S.SliceStore.kind in
+    let made = c.replicas_without-replicas in
+    let ended = c.run_on-ended in
+    let t = run_span g.K.Keeper.view g.K.Keeper.follows (c.args.shelf.now, c.args.keeper.now) (ended.new.shelf, ended.new.keeper) in
+    IfErr-weaker ended.result (IsPassStop kind made.result c.in-Ok.loaded t) (λ why. IsEarly why → ended.new.progress ≡ c.args.progress.now)
+    (λ why h. not_early kind made.result c.in-Ok.loaded t why h) ended.ensures.stopped

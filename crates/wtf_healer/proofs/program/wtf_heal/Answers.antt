@@ -1,7 +1,10 @@
-use Rattle.wtf_healer.proofs.Ending.{status_of, quiet, still, wrote, untouched, unkept}
+use Rattle.wtf_healer.proofs.Ending.{status_of, quiet, still, wrote, untouched, unkept, hands_one}
 use Rattle.wtf_healer.proofs.Proving.{unnamed, refused, image, synced, fault_cause, empty, nothing, sink_cause, keeper_cause, save_cause}
 use Rattle.wtf_healer.proofs.Theorem.{healed, complete}
 use Rattle.wtf_healer.proofs.program.wtf_heal.Goals as goal
+
+pub returns-clause-over : goal.returns-clause-over
+returns-clause-over g c = c.heal_and_tell-status.ensures.over
 
 pub returns-clause-statuses : goal.returns-clause-statuses
 returns-clause-statuses g c = status_of _ _ _ _ _ c.heal_and_tell-status.ensures.over
@@ -46,22 +49,22 @@ pub returns-clause-keeper_cause : goal.returns-clause-keeper_cause
 returns-clause-keeper_cause g c eight = keeper_cause _ _ _ _ _ c.heal_and_tell-status.ensures.over eight
 
 pub returns-clause-save_cause : goal.returns-clause-save_cause
-returns-clause-save_cause g c five = save_cause _ _ _ _ _ c.heal_and_tell-status.ensures.over five
+returns-clause-save_cause g c five = save_cause _ _ _ _ g.met.S.SliceStore.laws _ c.heal_and_tell-status.ensures.over five
 
 pub returns-clause-fault_cause : goal.returns-clause-fault_cause
 returns-clause-fault_cause g c eleven held ks holds named text taken =
     fault_cause _ _ _ _ held holds ks named _ c.heal_and_tell-status.ensures.over eleven text taken
 
 pub returns-clause-healed : goal.returns-clause-healed
-returns-clause-healed g c held ks tree named some telling room live zero text taken =
-    healed g.met.S.SliceStore.laws _ _ _ held ks tree named some telling live room _ c.heal_and_tell-status.ensures.over zero text taken
+returns-clause-healed g c held ks tree named some telling room live zero =
+    healed g.met.S.SliceStore.laws _ _ _ held ks tree named some telling room live _ c.heal_and_tell-status.ensures.over zero
 
 pub returns-clause-complete : goal.returns-clause-complete
-returns-clause-complete g c held ks tree named some telling live only still =
-    complete g.met.S.SliceStore.laws _ _ _ held ks tree named some telling live only still _ c.heal_and_tell-status.ensures.over
+returns-clause-complete g c held ks tree named some telling live still =
+    complete g.met.S.SliceStore.laws _ _ _ held ks tree named some telling live still _ c.heal_and_tell-status.ensures.over
 
 pub returns-clause-handed : goal.returns-clause-handed
-returns-clause-handed g c = c.heal_and_tell-status.ensures.goes.handed
+returns-clause-handed g c = hands_one _ _ _ _ _ c.heal_and_tell-status.ensures.over
 
 pub returns-clause-lost : goal.returns-clause-lost
 returns-clause-lost g c ks named = c.heal_and_tell-status.ensures.goes.lost ks named

@@ -1,4 +1,4 @@
-use Rattle.std.proofs.Common.{◌≡◌, Option, Some, sym, ap, ◌∙◌, subst, inl, inr}
+use Rattle.std.proofs.Common.{◌≡◌, Option, Some, length, length-append, sym, ap, ◌∙◌, subst, arith, inl, inr}
 use Rattle.std.specs.Option.{option_copied}
 use Rattle.wtf_values.specs.declared.key.Key.{Key}
 use Rattle.wtf_meta.specs.FileEdits.{region_of}
@@ -21,6 +21,7 @@ returns-in-Err-clause-fault g c =
       inode = c.in-Region.inode;
       region = c.in-Region.region;
       value_is = v;
+      key_is = c.in-Region.is;
       there = sym (ap w c.in-Region.is) ∙ region_is (w c.args.key.now) v is;
       cause = c.in-Err.ensures.fault;
     })
@@ -40,6 +41,14 @@ returns-clause-at g c =
     inl (subst (λ (k : Key). IsPutAt kind (old, new) w k c.args.healed.now c.add.new.self) (sym c.in-Region.is)
     (put_at kind (old, new) w c.in-Region.inode c.in-Region.region v c.in-Some-made.made put.0 c.args.healed.now c.add.new.self
     (sym (ap w c.in-Region.is) ∙ region_is (w c.args.key.now) v is)
-    (subst (λ (o : Option Restored). IsHealedOr kind old new v o) c.in-Some-made.is c.in-Ok.ensures.healed)
+    (subst (λ (o : Option Restored). IsHealedOr kind old new (record { inode = c.in-Region.inode; region = c.in-Region.region }) v o) c.in-Some-made.is
+    c.in-Ok.ensures.healed)
     put.1 put.2 c.in-Ok-add.ensures.bytes
     (subst (λ (o : Option Restored). Grew kind old new (bytes_restored o)) c.in-Some-made.is c.in-Ok.ensures.grew)))
+
+pub returns-clause-progress : goal.returns-clause-progress
+returns-clause-progress g c =
+    let changes = c.args.healed.now.changes in
+    let put = c.in-Ok-add.ensures.put in
+    let more = ap length put.2 ∙ length-append changes _ in
+    c.tell_progress.ensures (length changes) (omega (arith, more))

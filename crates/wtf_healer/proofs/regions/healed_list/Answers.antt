@@ -21,7 +21,7 @@ restore-requires-clause-few g c =
 pub returns-in-Ok-restore-clause-healed : goal.returns-in-Ok-restore-clause-healed
 returns-in-Ok-restore-clause-healed g c =
     healed_of g.met.S.SliceStore.laws c.args.dev.now c.base_list.new.dev c.restore.new.dev c.base_list.ensures.dev c.restore.ensures.dev
-    c.args.value.now c.in-Ok.under c.in-Ok-short_list.list c.in-Ok.ensures.read (sym c.is_to_heal.ensures ∙ c.if-not-is_to_heal.false)
+    c.args.key c.args.value.now c.in-Ok.under c.in-Ok-short_list.list c.in-Ok.ensures.read (sym c.is_to_heal.ensures ∙ c.if-not-is_to_heal.false)
     c.in-Ok-short_list.ensures.short c.in-Ok-restore.made c.in-Ok-restore.ensures.restored
 
 pub returns-in-Ok-restore-clause-grew : goal.returns-in-Ok-restore-clause-grew
@@ -35,7 +35,8 @@ returns-in-Ok-restore-clause-dev g c = goes_on g.met.S.SliceStore.laws c.base_li
 pub returns-clause-fault : goal.returns-clause-fault
 returns-clause-fault g c =
     restore_fault g.met.S.SliceStore.laws c.args.dev.now c.base_list.new.dev c.restore.new.dev c.base_list.ensures.dev c.restore.ensures.dev c.args.value.now
-    c.in-Ok.under c.in-Ok-short_list.list c.in-Ok.ensures.read c.in-Ok-short_list.ensures.short c.in-Err-restore.why c.in-Err-restore.ensures.fault
+    c.in-Ok.under c.in-Ok-short_list.list c.in-Ok.ensures.read (sym c.is_to_heal.ensures ∙ c.if-not-is_to_heal.false)
+    c.in-Ok-short_list.ensures.short c.in-Err-restore.why c.in-Err-restore.ensures.fault
 
 pub returns-clause-dev : goal.returns-clause-dev
 returns-clause-dev g c = goes_on g.met.S.SliceStore.laws c.base_list.ensures.dev c.restore.ensures.dev
