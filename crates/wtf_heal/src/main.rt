@@ -1,11 +1,17 @@
 //! The program that makes copies again of what lay on lost servers.
 #![tactic(auto)]
 
-ghost use Rattle.std.specs.Prelude.{◌≡◌, ℕ, List, [], Some, drop, map, string_bytes, IfErr};
+ghost use Rattle.std.specs.Prelude.{◌≡◌, ◌≢◌, ◌≤◌, ◌⊎◌, ℕ, List, [], Some, drop, map, string_bytes, IfErr};
 ghost use Rattle.wtf_dev.specs.Each.{EachFollows};
-ghost use Rattle.wtf_heal.specs.Program.{IsEnd, is_name, heal_open_status};
-ghost use Rattle.wtf_healer.specs.Ends.{AreHanded, AreLostSame};
-ghost use Rattle.wtf_healer.specs.Words.{lost_in};
+ghost use Rattle.wtf_heal.specs.Program.{IsBroughtOut, IsEnd, IsHealRun, is_name, heal_open_status};
+ghost use Rattle.wtf_healer.specs.Ends.{AreLostSame, HandsOne, run_span, sink_span};
+ghost use Rattle.wtf_healer.specs.Heals.{Heals};
+ghost use Rattle.wtf_healer.specs.Live.{IsLiveTree};
+ghost use Rattle.wtf_healer.specs.Progress.{TellsProgress};
+ghost use Rattle.wtf_healer.specs.Runs.{AreTelling, HasNextNumber, IsLiveTreeIn, IsUntouched, NoFaultRose};
+ghost use Rattle.wtf_healer.specs.Words.{is_server_in, lost_in};
+ghost use Rattle.wtf_model.specs.Tree.{Tree};
+ghost use Rattle.wtf_replica.specs.Bytes.{byte_at};
 
 mod devices;
 
@@ -147,15 +153,44 @@ pub fn heal_over<O: Sink, P: Sink, S: SliceStore, K: Keeper>(
     progress: &mut P,
 ) -> u8
     ensures status { IsEnd result }
+    ensures ran { IsHealRun S.kind (lost_in (map string_bytes (drop 2 args.now)))
+        (run_span K.view K.follows (shelf.old, keeper.old) (shelf.new, keeper.new))
+        (sink_span O.view out.old out.new) result }
     ensures follows { EachFollows S.kind shelf.old shelf.new [] }
     ensures lost { (ks : List ℕ) → lost_in (map string_bytes (drop 2 args.now)) ≡ Some ks →
         AreLostSame ks shelf.old shelf.new }
-    ensures handed { AreHanded (K.follows keeper.old keeper.new) }
+    ensures handed { HandsOne S.kind (lost_in (map string_bytes (drop 2 args.now)))
+        (run_span K.view K.follows (shelf.old, keeper.old) (shelf.new, keeper.new)) }
+    ensures healed { (held ks : List ℕ) (t : Tree) →
+        lost_in (map string_bytes (drop 2 args.now)) ≡ Some ks → held ≢ [] →
+        AreTelling S.kind ks shelf.old (K.view keeper.old) held → HasNextNumber held →
+        IsLiveTree (byte_at S.kind shelf.old) (is_server_in ks) held t → result ≡ 0 →
+        Heals S.kind ks
+        (run_span K.view K.follows (shelf.old, keeper.old) (shelf.new, keeper.new))
+        (sink_span O.view out.old out.new) t held }
+    ensures complete { (held ks : List ℕ) (t : Tree) →
+        lost_in (map string_bytes (drop 2 args.now)) ≡ Some ks → held ≢ [] →
+        AreTelling S.kind ks shelf.old (K.view keeper.old) held →
+        IsLiveTreeIn S.kind shelf.old (is_server_in ks) held t →
+        NoFaultRose S.kind (O.view out.old, shelf.old, K.view keeper.old)
+        (O.view out.new, shelf.new, K.view keeper.new) →
+        (result ≡ 0) ⊎ (result ≡ 2) ⊎ (result ≡ 6) ⊎ (result ≡ 7) }
+    ensures progress { TellsProgress (P.view progress.old) (P.view progress.new) }
+    ensures silent { IsUntouched result → progress.new ≡ progress.old }
 {
     let words = behind_dir(args);
-    let status = wtf_heal(alloc, words, out, shelf, keeper, progress);
+    let found = wtf_heal(alloc, words, out, shelf, keeper, progress);
+    let status = brought_out(out, found);
+    status
+}
+
+/// Brings out what the sink of a run holds back that ended with this status, and answers the status then.
+fn brought_out<O: Sink>(out: &mut O, found: u8) -> u8
+    ensures out { IsBroughtOut found result (O.view out.old) (O.view out.new) }
+    ensures faults { (O.view out.old).faults ≤ (O.view out.new).faults }
+{
     match out.write(&[]) {
-        Ok(_) => status,
+        Ok(_) => found,
         Err(_) => WRITING_FAILED,
     }
 }

@@ -296,6 +296,85 @@ fn a_read_fails(rt: HostRuntime) -> Result<(), Fail> {
     Ok(())
 }
 
+/// The files of a script, in the order in which they are made. The bytes of the first and of the last one lie on other servers, of
+/// which one is the same.
+const FILES: [&str; 5] = ["/a", "/b", "/c", "/d", "/e"];
+
+/// A script that makes all files, of which these have four bytes.
+fn files_of(alloc: Global, filled: &[&str]) -> Result<String, Fail> {
+    let mut script = "c0 begin\n".to_string(alloc)?;
+    for name in FILES {
+        script = format!(in alloc; "{script}c0 create {name}\n")?;
+    }
+    for name in filled.iter() {
+        script = format!(in alloc; "{script}c0 open f0 {name}\nc0 write f0 t:abcd\nc0 close f0\n")?;
+    }
+    Ok(format!(in alloc; "{script}c0 try\n")?)
+}
+
+/// What the healer comes to where these files have bytes, one server is lost, and another one fails.
+fn with_files(alloc: Global, filled: &[&str], lost: &str, other: u8) -> Result<Ended, Fail> {
+    let script = files_of(alloc, filled)?;
+    with_two(alloc, script.as_str(), lost, other, State::Failing)
+}
+
+/// Whether the first and the last file have different faults, each where it alone has bytes. Where both have, it is the fault of the
+/// first one, or of the last one where the first one has none.
+fn are_two_faults(alloc: Global, lost: &str, other: u8) -> Result<bool, Fail> {
+    let (first, last) = (FILES[0], FILES[4]);
+    let one = with_files(alloc, &[first], lost, other)?;
+    let two = with_files(alloc, &[last], lost, other)?;
+    let both = with_files(alloc, &[first, last], lost, other)?;
+    let named = if one.status == 11 { &one } else { &two };
+    if !both.has(named.status, named.output.as_slice()) {
+        return Err(Fail::from("another fault than the first"));
+    }
+    Ok(one.status == 11 && two.status == 11 && !one.has(11, two.output.as_slice()))
+}
+
+/// The server that both files lie on is lost. Where the other one of the first file fails, its bytes cannot be read and those of the
+/// last file cannot be stored; where the other one of the last file does, it is the other way round.
+#[test]
+fn the_first_fault_is_named(rt: HostRuntime) -> Result<(), Fail> {
+    let mut count = 0u32;
+    for lost in SERVERS {
+        for other in SERVERS {
+            if lost.0 != other.0 && are_two_faults(rt.alloc(), lost.1, other.0)? {
+                count = count.saturating_add(1);
+            }
+        }
+    }
+    assert!(rt; count == 2, "{count}");
+    Ok(())
+}
+
+/// Bytes that are no image, whichever server is lost.
+const NO_IMAGE: &[u8] = b"WTFIMG0";
+
+/// Whether the keeper's bytes are refused and stay.
+fn refuses_bytes(alloc: Global, lost: &str) -> Result<bool, Fail> {
+    let mut kept = made(alloc, 3, THREE, FOUR_BYTES)?;
+    let ended = heal(alloc, lost, &mut kept.shelf, NO_IMAGE, NO_CALL)?;
+    Ok(is_so(&ended, 6, "image refused 1 notanimage\n") && ended.kept.as_slice() == NO_IMAGE)
+}
+
+#[test]
+fn bytes_that_are_no_image_are_refused(rt: HostRuntime) -> Result<(), Fail> {
+    for (_, lost) in SERVERS {
+        assert!(rt; refuses_bytes(rt.alloc(), lost)?, "{lost}");
+    }
+    Ok(())
+}
+
+/// The bytes are on two servers. Where one of these has an empty store and is not lost, the image names bytes that are not there.
+#[test]
+fn an_image_is_refused_that_names_more_than_is_left(rt: HostRuntime) -> Result<(), Fail> {
+    let line = "image refused 3 pointeroutside\n";
+    let refused = pairs(rt.alloc(), FOUR_BYTES, State::Empty, 6, line)?;
+    assert!(rt; refused == 4, "{refused}");
+    Ok(())
+}
+
 /// The list is on two servers. A copy of it that is read is spoiled where the other one is lost, or where the server
 /// without a copy is and it is the first one.
 #[test]
