@@ -2,6 +2,8 @@ pub mod Printed
 pub mod Events
 pub mod Carried
 pub mod WayLaws
+pub mod FillLaws
+pub mod SizeLaws
 pub mod PutLaws
 pub mod ReadLaws
 pub mod GetLaws

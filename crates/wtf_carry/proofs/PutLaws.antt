@@ -1,10 +1,19 @@
 -- How the lines that put a file come to be written, piece by piece.
 use Rattle.std.proofs.Common.{
   ◌≡◌,
+  ◌≢◌,
+  ◌⊎◌,
+  inl,
+  inr,
   ℕ,
   ◌+◌,
   ◌<◌,
   ◌≤◌,
+  min,
+  nat_le,
+  Bool,
+  true,
+  false,
   List,
   [],
   ◌∷◌,
@@ -28,7 +37,9 @@ use Rattle.std.proofs.Common.{
 }
 use Rattle.std.specs.Prelude.{All}
 use Rattle.std.proofs.lemmas.List.{length-append, append-nil, length-take-le, take-append-drop}
-use Rattle.std.proofs.lemmas.List.Elements.{All-nil, All-cons, All-append, All-weaker}
+use Rattle.std.proofs.lemmas.Bool.Decides.{nat_tests}
+use Rattle.std.proofs.Math.ListN.{drop_of_length-le}
+use Rattle.std.proofs.lemmas.List.Elements.{All-nil, All-cons, All-head, All-tail, All-append, All-weaker}
 use Rattle.hex.specs.Hex.{IsBytes}
 use Rattle.wtf_path.specs.Grammar.{IsPath}
 use Rattle.wtf_model.specs.declared.limits.TheConstants.{MAX_WRITTEN}
@@ -37,8 +48,10 @@ use Rattle.wtf_carry.specs.declared.stop.Stop.TheVariants as stop
 use Rattle.wtf_carry.specs.declared.TheConstants.{MOST_BYTES}
 use Rattle.wtf_carry.specs.Asked.{Asked, Asks, asked_text, turn, carried, writes, begin_line, try_line, create_line, open_line, write_line}
 use Rattle.wtf_carry.specs.Ways.{IsWayUp, mkdirs}
-use Rattle.wtf_carry.specs.Puts.{head_lines, joined, IsPiece, Puts, HasHead, Carries, CarriesEnd, CarriesTo, passage, Sofar}
+use Rattle.wtf_carry.specs.Streams.{Filled}
+use Rattle.wtf_carry.specs.Puts.{head_lines, joined, IsPiece, IsFullPiece, AreFilled, Puts, HasHead, Carries, CarriesEnd, CarriesTo, passage, Sofar}
 use Rattle.wtf_carry.proofs.Events.{begin-asks, try-asks, create-asks, open-asks, write-asks}
+use Rattle.wtf_carry.proofs.SizeLaws.{lines-size}
 use Rattle.wtf_carry.proofs.Carried.{text_of-append, total-push, carried-push, joined-push, joined-size, carried-asks, mkdirs-ask}
 
 pub sofar-start : (path all old head : List ℕ) (left new : Option (List ℕ)) → HasHead path [] head → left ≡ Some all → new ≡ Some (old ++ head)
@@ -52,10 +65,28 @@ sofar-start path all old head left new h from to = record {
   bytes = refl;
   left_is = from;
   sized = All-nil IsPiece;
+  filled = tt;
+  full = λ some. All-nil IsFullPiece;
   count = refl;
   size = refl;
   new_is = to ∙ ap Some (ap (λ (l : List ℕ). old ++ l) (h.new_is ∙ ap asked_text (sym (append-nil (head_lines path h.up)))));
 }
+
+-- one piece behind full ones
+filled-push : (pieces : List (List ℕ)) (last : List ℕ) → All IsFullPiece pieces → AreFilled (pieces ++ last ∷ [])
+filled-push [] last full = tt
+filled-push (piece ∷ []) last full = (All-head IsFullPiece piece [] full, tt)
+filled-push (piece ∷ next ∷ pieces) last full =
+    (All-head IsFullPiece piece (next ∷ pieces) full, filled-push (next ∷ pieces) last (All-tail IsFullPiece piece (next ∷ pieces) full))
+
+-- bytes of which a piece was taken are none that are at their end
+not-end : (rest piece then : List ℕ) → rest ≡ piece ++ then → 1 ≤ length piece → rest ≢ []
+not-end rest piece then is some none = absurd (omega (arith, ap length (sym is ∙ none), length-append piece then))
+
+full-push : (pieces : List (List ℕ)) (piece then : List ℕ) → All IsFullPiece pieces → IsFullPiece piece ⊎ (then ≡ []) → then ≢ []
+    → All IsFullPiece (pieces ++ piece ∷ [])
+full-push pieces piece then full (inl is) more = All-append IsFullPiece pieces (piece ∷ []) full (All-cons IsFullPiece piece [] is (All-nil IsFullPiece))
+full-push pieces piece then full (inr none) more = absurd (more none)
 
 -- a text, and more
 joined_text : (old : List ℕ) (xs ys : List Asked) → (old ++ asked_text xs) ++ asked_text ys ≡ old ++ asked_text (xs ++ ys)
@@ -68,6 +99,7 @@ sofar-more path all old i at n left new left' new' s c =
     let head = head_lines path s.up in
     let before = carried writes path 0 0 s.pieces in
     let more = turn try_line path i at ++ write_line c.piece ∷ [] in
+    let before_full = s.full (not-end s.rest c.piece c.then c.rest_is c.is.0) in
     let push = carried-push writes path 0 0 s.pieces c.piece i at (omega (arith, s.count)) (omega (arith, s.size)) in
     record {
       is_path = s.is_path;
@@ -79,6 +111,8 @@ sofar-more path all old i at n left new left' new' s c =
           ∙ ap (λ (l : List ℕ). l ++ c.then) (sym (joined-push s.pieces c.piece));
       left_is = c.left_is;
       sized = All-append IsPiece s.pieces (c.piece ∷ []) s.sized (All-cons IsPiece c.piece [] c.is (All-nil IsPiece));
+      filled = filled-push s.pieces c.piece before_full;
+      full = full-push s.pieces c.piece c.then before_full c.full;
       count = omega (arith, length-append s.pieces (c.piece ∷ []), s.count);
       size = omega (arith, total-push (λ (piece : List ℕ). length piece) s.pieces c.piece, s.size, c.count);
       new_is = c.new_is ∙ ap Some (joined_text old (head ++ before) more
@@ -103,14 +137,18 @@ sofar-end path all old i at left new left' new' then s fits c last =
     let before = carried writes path 0 0 s.pieces in
     let is = s.is_path in
     let P : List ℕ → Type 0 = λ piece. Asks (write_line piece) in
+    let bytes : joined s.pieces ≡ all = sym (s.bytes ∙ ap (λ (l : List ℕ). joined s.pieces ++ l) c.rest_is ∙ append-nil (joined s.pieces)) in
     record {
       up = s.up;
       pieces = s.pieces;
       way = s.way;
-      bytes = sym (s.bytes ∙ ap (λ (l : List ℕ). joined s.pieces ++ l) c.rest_is ∙ append-nil (joined s.pieces));
+      bytes = bytes;
       sized = s.sized;
+      filled = s.filled;
+      few = omega (arith, ap length bytes, joined-size s.pieces, s.size);
       new_is = last ∙ ap Some (joined_text old (head ++ before) (try_line ∷ [])
           ∙ ap (λ (xs : List Asked). old ++ asked_text xs) (append_assoc head before (try_line ∷ [])));
+      within = lines-size path s.up s.pieces is s.way s.filled (omega (arith, s.size));
       asks = All-append Asks head (before ++ try_line ∷ []) (head-asks path s.up is s.way)
           (All-append Asks before (try_line ∷ [])
           (carried-asks writes path 0 0 s.pieces try-asks is (omega (arith, s.size)) (All-weaker IsPiece P piece-asks s.pieces s.sized))
@@ -122,19 +160,28 @@ pub sofar-too_long : (path all old : List ℕ) (i at : ℕ) (left new : Option (
 sofar-too_long path all old i at left new s h =
     omega (arith, ap length s.bytes, length-append (joined s.pieces) s.rest, joined-size s.pieces, s.size)
 
-pub carries-one : (path : List ℕ) (i at n : ℕ) (rest old out piece text : List ℕ) (left new : Option (List ℕ)) → n ≤ length rest → take n out ≡ take n rest
-    → left ≡ Some (drop n rest) → piece ≡ take n out → 1 ≤ n → n ≤ MAX_WRITTEN → IsBytes piece
+-- a piece of n bytes is full, or nothing is left behind it
+full-or-last : (n : ℕ) (rest piece : List ℕ) → n ≡ min MAX_WRITTEN (length rest) → length piece ≡ n → IsFullPiece piece ⊎ (drop n rest ≡ [])
+full-or-last n rest piece count size = by_size (nat_le (length rest) n) refl
+  where
+    by_size : (b : Bool) → nat_le (length rest) n ≡ b → IsFullPiece piece ⊎ (drop n rest ≡ [])
+    by_size true h = inr (drop_of_length-le rest (grind (arith, nat_tests)))
+    by_size false h = inl (grind (arith, nat_tests))
+
+pub carries-one : (path : List ℕ) (i at n : ℕ) (rest old out piece text : List ℕ) (left new : Option (List ℕ)) → Filled n MAX_WRITTEN out rest left
+    → piece ≡ take n out → 1 ≤ n → IsBytes piece
     → text ≡ asked_text (turn try_line path i at ++ write_line piece ∷ []) → new ≡ Some (old ++ text) → Carries path i at n (passage rest old left new)
-carries-one path i at n rest old out piece text left new short same from is some most bytes lines to =
-    let p : piece ≡ take n rest = is ∙ same in
-    let size : length piece ≡ n = ap length p ∙ length-take-le n rest short in
+carries-one path i at n rest old out piece text left new f is some bytes lines to =
+    let p : piece ≡ take n rest = is ∙ f.bytes in
+    let size : length piece ≡ n = ap length p ∙ length-take-le n rest (omega (arith, f.count)) in
     record {
       piece = piece;
       then = drop n rest;
       rest_is = sym (ap (λ (l : List ℕ). l ++ drop n rest) p ∙ take-append-drop n rest);
-      left_is = from;
+      left_is = f.left_is;
       count = size;
-      is = (omega (arith, size), omega (arith, size), bytes);
+      is = (omega (arith, size), omega (arith, size, f.count), bytes);
+      full = full-or-last n rest piece f.count size;
       new_is = to ∙ ap Some (ap (λ (l : List ℕ). old ++ l) lines);
     }
 

@@ -5,7 +5,6 @@ use Rattle.std.proofs.Common.{
   ℕ,
   ◌+◌,
   ◌-◌,
-  ◌<◌,
   ◌≤◌,
   Bool,
   true,
@@ -34,14 +33,12 @@ use Rattle.std.proofs.Common.{
   inr,
 }
 use Rattle.std.specs.Prelude.{All}
-use Rattle.std.specs.List.{join_with_byte}
 use Rattle.std.specs.FinMap.{get, insert, get-empty}
 use Rattle.std.specs.Ordering.{nat_cmp}
 use Rattle.std.proofs.lemmas.List.{length-append, append-nil, take_all, drop_all}
 use Rattle.std.proofs.lemmas.List.Elements.{All-nil, All-cons, All-head, All-tail}
-use Rattle.wtf_path.specs.Grammar.{IsName, IsPath, spelling}
-use Rattle.wtf_path.specs.Parts.{names_of, without_last, parent_with, parent_of}
-use Rattle.wtf_path.proofs.Refused.{parts_of-join}
+use Rattle.wtf_path.specs.Grammar.{IsPath}
+use Rattle.wtf_path.specs.Parts.{parent_of}
 use Rattle.wtf_model.specs.declared.answer.Word.{Word}
 use Rattle.wtf_model.specs.declared.answer.Word.TheVariants.{Exists, NoParent}
 use Rattle.wtf_model.specs.declared.op.Op.TheVariants as op
@@ -60,48 +57,10 @@ use Rattle.wtf_carry.specs.Ways.{IsWayUp, mkdirs}
 use Rattle.wtf_carry.specs.Puts.{IsPiece, joined, head_lines, put_lines}
 use Rattle.wtf_carry.specs.Runs.{Stand, after_line, after_lines, IsFilePut, IsWay, PutIsStored, PutIsGot}
 use Rattle.wtf_carry.proofs.Carried.{joined-size}
+use Rattle.wtf_carry.proofs.WayLaws.{no-parent, shorter}
 use Rattle.wtf_carry.proofs.RunLaws.{ready-start, ready-seek, read-is-got}
 
--- ---- the directory that a path stands in
-
-names-are : (p : List ℕ) (is : IsPath p) → names_of p ≡ is.names
-names-are p is = ap names_of is.spelled ∙ parts_of-join is.names is.each
-
-no-names : (ns : List (List ℕ)) → parent_with ns ≡ None → ns ≡ []
-no-names [] e = refl
-no-names (n ∷ ns) e = absurd cc
-
-no-parent : (p : List ℕ) → IsPath p → parent_of p ≡ None → p ≡ root
-no-parent p is e = is.spelled ∙ ap spelling (no-names is.names (ap parent_with (sym (names-are p is)) ∙ e))
-
-joined-more : (n : List ℕ) (xs : List (List ℕ)) → length (join_with_byte 47 (n ∷ xs)) ≤ length n + 1 + length (join_with_byte 47 xs)
-joined-more n [] = omega arith
-joined-more n (x ∷ xs) = omega (arith, length-append n (47 ∷ join_with_byte 47 (x ∷ xs)))
-
-some-bytes : (n : List ℕ) → IsName n → 0 < length n
-some-bytes [] is = absurd (is.some refl)
-some-bytes (b ∷ bs) is = omega arith
-
-shorter-names : (n : List ℕ) (ns : List (List ℕ)) → All IsName (n ∷ ns)
-    → length (join_with_byte 47 (without_last (n ∷ ns))) < length (join_with_byte 47 (n ∷ ns))
-shorter-names n [] each = some-bytes n (All-head IsName n [] each)
-shorter-names n (m ∷ ns) each =
-    omega (
-      arith,
-      length-append n (47 ∷ join_with_byte 47 (m ∷ ns)),
-      joined-more n (without_last (m ∷ ns)),
-      shorter-names m ns
-          (All-tail IsName n (m ∷ ns) each),
-    )
-
-shorter-parent : (ns : List (List ℕ)) (d : List ℕ) → All IsName ns → parent_with ns ≡ Some d → length d < length (spelling ns)
-shorter-parent [] d each e = absurd cc
-shorter-parent (n ∷ ns) d each e =
-    let k : spelling (without_last (n ∷ ns)) ≡ d = cc in
-    omega (arith, ap length k, shorter-names n ns each)
-
-shorter : (p d : List ℕ) → IsPath p → parent_of p ≡ Some d → length d < length p
-shorter p d is e = omega (arith, shorter-parent is.names d is.each (ap parent_with (sym (names-are p is)) ∙ e), ap length is.spelled)
+-- ---- directories on the way
 
 -- no path stands on the way to itself
 others-up : (q p : List ℕ) (up : List (List ℕ)) → IsPath p → IsWayUp p up → length p ≤ length q → All (λ d. q ≢ d) up

@@ -1,9 +1,10 @@
 -- The lines that put a file, and how they come to be written.
-use Rattle.std.specs.Prelude.{◌≡◌, ℕ, ◌+◌, ◌<◌, ◌≤◌, List, [], ◌∷◌, ◌++◌, length, Option, Some, None, Result, Ok, Err}
+use Rattle.std.specs.Prelude.{◌≡◌, ◌≢◌, ◌⊎◌, ℕ, ◌+◌, ◌<◌, ◌≤◌, List, [], ◌∷◌, ◌++◌, length, Option, Some, None, Result, Ok, Err}
 use Rattle.std.specs.List.{flat_map, All}
 use Rattle.hex.specs.Hex.{IsBytes}
 use Rattle.wtf_path.specs.Grammar.{IsPath}
 use Rattle.wtf_model.specs.declared.limits.TheConstants.{MAX_WRITTEN}
+use Rattle.wtf_script.specs.declared.limits.TheConstants.{SCRIPT_BYTES}
 use Rattle.wtf_carry.specs.declared.stop.Stop.{Stop}
 use Rattle.wtf_carry.specs.declared.stop.Stop.TheVariants as stop
 use Rattle.wtf_carry.specs.declared.TheConstants.{MOST_BYTES}
@@ -26,6 +27,16 @@ joined pieces = flat_map (λ piece. piece) pieces
 abbrev pub IsPiece : List ℕ → Type 0
 IsPiece piece = (1 ≤ length piece) × (length piece ≤ MAX_WRITTEN) × IsBytes piece
 
+-- as much as one write may carry
+abbrev pub IsFullPiece : List ℕ → Type 0
+IsFullPiece piece = length piece ≡ MAX_WRITTEN
+
+-- all of them but the last are full
+abbrev pub AreFilled : List (List ℕ) → Type 0
+AreFilled [] = Unit {0}
+AreFilled (piece ∷ []) = Unit {0}
+AreFilled (piece ∷ next ∷ pieces) = IsFullPiece piece × AreFilled (next ∷ pieces)
+
 -- the bytes `all` were turned into the lines that put them, behind what the sink had
 pub record Puts (path all old : List ℕ) (new : Option (List ℕ)) : Type 0 where
   pub up : List (List ℕ)
@@ -35,7 +46,11 @@ pub record Puts (path all old : List ℕ) (new : Option (List ℕ)) : Type 0 whe
   -- the writes, laid one after the other, are the bytes
   pub bytes : joined pieces ≡ all
   pub sized : All IsPiece pieces
+  pub filled : AreFilled pieces
+  pub few : length all ≤ MOST_BYTES
   pub new_is : new ≡ Some (old ++ asked_text (put_lines path up pieces))
+  -- all lines are within a script
+  pub within : length (asked_text (put_lines path up pieces)) ≤ SCRIPT_BYTES
   -- each line is taken as the event that it is to ask for
   pub asks : All Asks (put_lines path up pieces)
 
@@ -64,6 +79,8 @@ pub record Carries (path : List ℕ) (i at n : ℕ) (p : Passage) : Type 0 where
   pub left_is : p.left ≡ Some then
   pub count : length piece ≡ n
   pub is : IsPiece piece
+  -- it is full, or the last one
+  pub full : IsFullPiece piece ⊎ (then ≡ [])
   pub new_is : p.new ≡ Some (p.old ++ asked_text (turn try_line path i at ++ write_line piece ∷ []))
 
 -- nothing is left
@@ -88,6 +105,9 @@ pub record Sofar (path all old : List ℕ) (i at : ℕ) (left new : Option (List
   pub bytes : all ≡ joined pieces ++ rest
   pub left_is : left ≡ Some rest
   pub sized : All IsPiece pieces
+  pub filled : AreFilled pieces
+  -- what is left comes behind full pieces
+  pub full : rest ≢ [] → All IsFullPiece pieces
   pub count : i ≡ length pieces
   pub size : at ≡ total (λ piece. length piece) pieces
   pub new_is : new ≡ Some (old ++ asked_text (head_lines path up ++ carried writes path 0 0 pieces))

@@ -7,7 +7,7 @@ ghost use Rattle.wtf_carry.specs.Asked.{asked_text, turn, try_line, write_line};
 ghost use Rattle.wtf_carry.specs.Puts.{Puts, HasHead, CarriesTo, passage};
 
 use crate::lines::{push_line, push_turn, push_ways, push_write};
-use crate::stream::write_all;
+use crate::stream::{fill, write_all};
 use crate::{MOST_BYTES, Stop};
 use std::alloc::Global;
 use wtf_base::OutOfMemory;
@@ -18,8 +18,9 @@ use wtf_path::Path;
 const PIECE_BYTES: usize = 16_384;
 
 /// Turns the bytes of a source into the lines that put them at a path, a piece at a time: directories on the way are made,
-/// the file is created, and its bytes are written, up to 4,000 pieces in a transaction. A file of more than 500,000,000
-/// bytes is `TooLong`; the lines of a file that was not carried to its end are to be thrown away.
+/// the file is created, and its bytes are written, up to 4,000 pieces in a transaction. Each piece but the last has 16,384
+/// bytes, also where the source gives a few at a time, and all lines have at most the bytes of a script. A file of more than
+/// 500,000,000 bytes is `TooLong`; the lines of a file that was not carried to its end are to be thrown away.
 pub fn put<I: Source, O: Sink>(
     alloc: Global,
     path: &Path,
@@ -66,7 +67,8 @@ fn push_head(alloc: Global, text: &mut Vec<u8>, path: &Path) -> Result<(), OutOf
     Ok(())
 }
 
-/// Reads a piece and writes its lines, for which `text` is room: how many bytes it has. `None` is the end.
+/// Reads a piece, a full one or the last, and writes its lines, for which `text` is room: how many bytes it has. `None` is
+/// the end.
 fn carry<I: Source, O: Sink>(
     path: &Path,
     i: u64,
@@ -91,7 +93,7 @@ fn carry<I: Source, O: Sink>(
         Rose (O.view out.old).faults (O.view out.new).faults }
     ensures no_answer { result ≢ Err Stop.Wrong }
 {
-    let n = match from.read(piece) {
+    let n = match fill(from, piece) {
         Ok(n) => n,
         Err(_) => return Err(Stop::Unread),
     };

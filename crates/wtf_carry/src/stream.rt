@@ -1,10 +1,31 @@
-//! Writing all of a text.
+//! Filling a piece from a source, and writing all of a text.
 
-ghost use Rattle.std.specs.Prelude.{◌≡◌, ◌≤◌, ℕ, List, Some, OnErr};
+ghost use Rattle.std.specs.Prelude.{◌≡◌, ◌≤◌, ℕ, List, Some, length, IfOk, OnErr};
 ghost use Rattle.wtf_dev.specs.Counts.{Rose};
-ghost use Rattle.wtf_carry.specs.Streams.{LinesTaken};
+ghost use Rattle.wtf_carry.specs.Streams.{Fills, LinesTaken};
 
-use wtf_dev::{Failed, Sink};
+use wtf_dev::{Failed, Sink, Source};
+
+/// Fills a piece with the next bytes of a source, which may give a few at a time, and answers how many there are: fewer than
+/// there is room for only at the end.
+pub(crate) fn fill<I: Source>(from: &mut I, piece: &mut [u8]) -> Result<usize, Failed>
+    ensures count { IfOk result (λ n. n ≤ length piece.old) }
+    ensures told { (rest : List ℕ) → (I.view from.old).rest ≡ Some rest →
+        Fills result (length piece.old) piece.new rest (I.view from.new).rest }
+    ensures faults { (I.view from.old).faults ≤ (I.view from.new).faults }
+    ensures cause { OnErr result (Rose (I.view from.old).faults (I.view from.new).faults) }
+{
+    let mut n = 0;
+    while n < piece.len() {
+        let (_, room) = piece.split_at_mut(n);
+        match from.read(room) {
+            Ok(0) => return Ok(n),
+            Ok(more) => n += more,
+            Err(e) => return Err(e),
+        }
+    }
+    Ok(n)
+}
 
 /// Writes all of a text.
 pub(crate) fn write_all<O: Sink>(out: &mut O, text: &[u8]) -> Result<(), Failed>

@@ -1,9 +1,11 @@
 //! Files as lines, and answers as files.
 
+ghost use Rattle.std.specs.Prelude.{None};
+
 use std::alloc::Global;
 use std::test::Fail;
 use wtf_carry::{Stop, get, put, reads};
-use wtf_dev::{MemSink, MemSource};
+use wtf_dev::{Failed, MemSink, MemSource, Source};
 use wtf_model::limits::MAX_NUMBER;
 use wtf_path::Path;
 
@@ -12,15 +14,65 @@ fn source(alloc: Global, bytes: &[u8]) -> Result<MemSource, Fail> {
     Ok(MemSource::new(alloc, bytes, Vec::new(alloc)))
 }
 
-/// Whether the bytes of a file, put at a path, are these lines.
-fn is_put(alloc: Global, path: &[u8], bytes: &[u8], lines: &[u8]) -> Result<bool, Fail> {
+/// A source that gives at most three bytes a call.
+#[derive(Drop)]
+struct Slow<'a> {
+    left: &'a [u8],
+    given: u64,
+}
+
+impl<'a> Source for Slow<'a> {
+    ghost view = { λ s. record { faults = 0; given = s.given; rest = None } };
+
+    fn read(&mut self, out: &mut [u8]) -> Result<usize, Failed> {
+        let n = out.len().min(self.left.len()).min(3);
+        let (front, left) = self.left.split_at(n);
+        out[..n].copy_from_slice(front);
+        self.left = left;
+        self.given = self.given.saturating_add(n as u64);
+        Ok(n)
+    }
+}
+
+/// Whether the bytes of a source, put at a path, are these lines.
+fn is_put_from<I: Source>(
+    alloc: Global,
+    path: &[u8],
+    from: &mut I,
+    lines: &[u8],
+) -> Result<bool, Fail> {
     let Ok(path) = Path::parse(alloc, path) else {
         return Ok(false);
     };
-    let mut from = source(alloc, bytes)?;
     let mut out = MemSink::new(alloc, Vec::new(alloc));
-    let done = put(alloc, &path, &mut from, &mut out).is_ok();
+    let done = put(alloc, &path, from, &mut out).is_ok();
     Ok(done && out.taken() == lines)
+}
+
+/// Whether the bytes of a file, put at a path, are these lines, whether they come at once or a few at a time.
+fn is_put(alloc: Global, path: &[u8], bytes: &[u8], lines: &[u8]) -> Result<bool, Fail> {
+    let mut slow = Slow {
+        left: bytes,
+        given: 0,
+    };
+    Ok(
+        is_put_from(alloc, path, &mut source(alloc, bytes)?, lines)?
+            && is_put_from(alloc, path, &mut slow, lines)?,
+    )
+}
+
+/// The lines that put bytes `a` at `/a`, in pieces of these lengths.
+fn lines_in_pieces(alloc: Global, pieces: &[usize]) -> Result<Vec<u8>, Fail> {
+    let mut lines = Vec::from_slice(alloc, b"c0 begin\nc0 create /a\nc0 open f0 /a\n")?;
+    for n in pieces {
+        lines.extend_from_slice(b"c0 write f0 x:")?;
+        for _ in 0..*n {
+            lines.extend_from_slice(b"61")?;
+        }
+        lines.push(b'\n')?;
+    }
+    lines.extend_from_slice(b"c0 try\n")?;
+    Ok(lines)
 }
 
 /// Whether these lines read a file of so many bytes.
@@ -77,6 +129,42 @@ fn puts_a_file(rt: HostRuntime) -> Result<(), Fail> {
     for (path, bytes, lines) in rows {
         assert!(rt; is_put(rt.alloc(), path, bytes, lines)?, "{path:?}");
     }
+    Ok(())
+}
+
+#[test]
+fn fills_its_pieces(rt: HostRuntime) -> Result<(), Fail> {
+    let rows: [(usize, &[usize]); 4] = [
+        (16_383, &[16_383]),
+        (16_384, &[16_384]),
+        (16_385, &[16_384, 1]),
+        (32_768, &[16_384, 16_384]),
+    ];
+    for (len, pieces) in rows {
+        let mut bytes = Vec::new(rt.alloc());
+        bytes.resize(len, b'a')?;
+        let lines = lines_in_pieces(rt.alloc(), pieces)?;
+        assert!(rt;
+            is_put(rt.alloc(), b"/a", bytes.as_slice(), lines.as_slice())?,
+            "{len}"
+        );
+    }
+    Ok(())
+}
+
+#[test]
+fn stops_in_a_piece(rt: HostRuntime) -> Result<(), Fail> {
+    let Ok(path) = Path::parse(rt.alloc(), b"/a") else {
+        return Err(Fail::from("no path"));
+    };
+    // The first read gives all bytes, and the one that would tell the end fails.
+    let bytes = Vec::from_slice(rt.alloc(), b"abc")?;
+    let mut from = MemSource::new(rt.alloc(), bytes, Vec::from_slice(rt.alloc(), &[1])?);
+    let mut out = MemSink::new(rt.alloc(), Vec::new(rt.alloc()));
+    assert_eq!(rt;
+        put(rt.alloc(), &path, &mut from, &mut out),
+        Err(Stop::Unread)
+    );
     Ok(())
 }
 
