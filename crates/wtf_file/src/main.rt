@@ -1,15 +1,17 @@
 //! The program that carries files in and out of a store, as lines of a script.
 #![tactic(auto)]
 
-ghost use Rattle.std.specs.Prelude.{◌≡◌, ℕ, List, Some, drop, OnOk, IfErr};
+ghost use Rattle.std.specs.Prelude.{◌≡◌, drop, map, string_bytes, IfErr};
 ghost use Rattle.std.specs.Process.{exit_status};
-ghost use Rattle.wtf_file.specs.Program.{IsFileStatus, HasNamedLength, Does};
+ghost use Rattle.wtf_file.specs.Program.{IsBroughtOut, IsCarryOver, IsFileStatus, IsOutcome, IsRunOver, streams};
+ghost use Rattle.wtf_file.specs.Words.{HasNamedLength, task_asked};
 
 mod status;
 mod task;
 
-use crate::status::{OUT_OF_MEMORY, WORDS_REFUSED, WRITING_FAILED, line_of, stop_status};
+use crate::status::{OUT_OF_MEMORY, WORDS_REFUSED, WRITING_FAILED, end_status, line_of};
 use crate::task::{Task, task_of};
+use std::alloc::Global;
 use std::process::ExitCode;
 use std::{env, io};
 use wtf_carry::{Stop, get, put, reads};
@@ -42,39 +44,77 @@ fn status_of(rt: &HostRuntime) -> u8
         Ok(args) => args,
         Err(status) => return status,
     };
-    let task = match task_of(rt.alloc(), behind_name(args.as_slice())) {
-        Ok(Some(task)) => task,
-        Ok(None) => return WORDS_REFUSED,
-        Err(_) => return OUT_OF_MEMORY,
-    };
     let Ok((mut from, mut out)) = streams(rt.alloc(), rt.stdin(), rt.stdout()) else {
         return OUT_OF_MEMORY;
     };
-    let done = run(rt, &task, &mut from, &mut out);
-    if out.finish().is_err() {
-        return WRITING_FAILED;
+    carry_over(
+        rt.alloc(),
+        behind_name(args.as_slice()),
+        &mut from,
+        &mut out,
+    )
+}
+
+/// Does what the words behind the program's name ask over any source and sink, and answers the status. What `out` holds back
+/// is brought out then; where that fails writing failed, however the task ended. Where the words ask for nothing, no byte is
+/// read or written.
+pub fn carry_over<I: Source, O: Sink>(
+    alloc: Global,
+    words: &[String],
+    from: &mut I,
+    out: &mut O,
+) -> u8
+    ensures known { IsFileStatus result }
+    ensures over { IsCarryOver (task_asked (map string_bytes words.now)) result
+        (streams (I.view from.old) (O.view out.old))
+        (streams (I.view from.new) (O.view out.new)) }
+{
+    match task_of(alloc, words) {
+        Ok(Some(task)) => run_over(alloc, &task, from, out),
+        Ok(None) => WORDS_REFUSED,
+        Err(_) => OUT_OF_MEMORY,
     }
-    match done {
-        Ok(()) => 0,
-        Err(stop) => stop_status(stop),
+}
+
+/// Does a task, brings out what `out` holds back, and answers the status.
+fn run_over<I: Source, O: Sink>(alloc: Global, task: &Task, from: &mut I, out: &mut O) -> u8
+    requires { HasNamedLength task.now }
+    ensures known { IsFileStatus result }
+    ensures over { IsRunOver task.now result
+        (streams (I.view from.old) (O.view out.old))
+        (streams (I.view from.new) (O.view out.new)) }
+{
+    let done = run(alloc, task, from, out);
+    brought_out(out, end_status(done))
+}
+
+/// Brings out what the sink holds back where a task ended with this status, and answers the status then.
+fn brought_out<O: Sink>(out: &mut O, status: u8) -> u8
+    ensures out { IsBroughtOut status result (O.view out.old) (O.view out.new) }
+    ensures known { IsFileStatus status → IsFileStatus result }
+{
+    match out.write(&[]) {
+        Ok(_) => status,
+        Err(_) => WRITING_FAILED,
     }
 }
 
 /// Does a task.
 fn run<I: Source, O: Sink>(
-    rt: &HostRuntime,
+    alloc: Global,
     task: &Task,
     from: &mut I,
     out: &mut O,
 ) -> Result<(), Stop>
     requires { HasNamedLength task.now }
-    ensures { OnOk result ((all old : List ℕ) → (I.view from.old).rest ≡ Some all →
-        (O.view out.old).taken ≡ Some old → Does task.now all old (O.view out.new).taken) }
+    ensures { IsOutcome task.now result
+        (streams (I.view from.old) (O.view out.old))
+        (streams (I.view from.new) (O.view out.new)) }
 {
     match task {
-        Task::Put(path) => put(rt.alloc(), path, from, out),
-        Task::Reads(path, len) => reads(rt.alloc(), path, *len, out),
-        Task::Get(len) => get(rt.alloc(), *len, from, out),
+        Task::Put(path) => put(alloc, path, from, out),
+        Task::Reads(path, len) => reads(alloc, path, *len, out),
+        Task::Get(len) => get(alloc, *len, from, out),
     }
 }
 

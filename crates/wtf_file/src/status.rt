@@ -1,9 +1,11 @@
 //! The statuses that the program ends with, and their lines.
 
 ghost use Rattle.std.specs.Prelude.{◌≡◌, option_map};
-ghost use Rattle.wtf_file.specs.Program.{status_line, file_stop_status};
+ghost use Rattle.wtf_file.specs.Program.{IsFileStatus, end_status, status_line};
 
 use wtf_carry::Stop;
+
+const DONE: u8 = 0;
 
 /// The answers are not those to the reads of a file of the length that was asked for.
 pub(crate) const WRONG_ANSWERS: u8 = 1;
@@ -34,15 +36,17 @@ pub(crate) fn line_of(status: u8) -> Option<&'static str>
     }
 }
 
-/// The status of a task that was not done.
-pub(crate) fn stop_status(stop: Stop) -> u8
-    ensures { result ≡ file_stop_status stop }
+/// The status of a task that ended so.
+pub(crate) fn end_status(done: Result<(), Stop>) -> u8
+    ensures status { result ≡ end_status done }
+    ensures known { IsFileStatus result }
 {
-    match stop {
-        Stop::Wrong => WRONG_ANSWERS,
-        Stop::Unread => READING_FAILED,
-        Stop::Unwritten => WRITING_FAILED,
-        Stop::Memory => OUT_OF_MEMORY,
-        Stop::TooLong => TOO_LONG,
+    match done {
+        Ok(()) => DONE,
+        Err(Stop::Wrong) => WRONG_ANSWERS,
+        Err(Stop::Unread) => READING_FAILED,
+        Err(Stop::Unwritten) => WRITING_FAILED,
+        Err(Stop::Memory) => OUT_OF_MEMORY,
+        Err(Stop::TooLong) => TOO_LONG,
     }
 }
