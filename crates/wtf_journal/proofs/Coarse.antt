@@ -73,13 +73,20 @@ module _ {M N : Type 0} (makes : BodyMakes M) (coarse : BodyMakes N) (f : M → 
               (λ none. inr (none_of f (makes x.0 body) (same x.0 body ∙ ap (λ (y : N). coarse y body) x.2 ∙ none))) (bad.bad body more short is);
         }
 
+  gives_on : (start : M) (c d : List ℕ) → ((x : M) → JournalGives makes start c x → JournalGives makes start d x) → (y : N)
+      → JournalGives coarse (f start) c y → JournalGives coarse (f start) d y
+  gives_on start c d keeps y gives =
+      let x = gives_back start c y gives in
+      subst (λ (z : N). JournalGives coarse (f start) d z) x.2 (gives_seen start d x.0 (keeps x.0 x.1))
+
   pub keeps_seen : (start : M) (old : DiskView) (c : DiskContent) → KeepsMeaning makes start old c → KeepsMeaning coarse (f start) old c
   keeps_seen start old c (c0, image, keeps) = (
     c0,
     image,
-    λ y gives.
-        let x = gives_back start c0 y gives in
-        subst (λ (z : N). JournalGives coarse (f start) (c 0) z) x.2 (gives_seen start (c 0) x.0 (keeps x.0 x.1)),
+    record {
+      same = λ y. (gives_on start c0 (c 0) (λ x. (keeps.same x).0) y, gives_on start (c 0) c0 (λ x. (keeps.same x).1) y);
+      bad = λ none. keeps.bad (λ x gives. none (f x) (gives_seen start c0 x gives));
+    },
   )
 
   abbrev pub opens_seen : {D : Type 0} (kind : DiskKind D) (old new : D) (end : ℕ) (start held : M) → OpensTo makes kind old new end start held

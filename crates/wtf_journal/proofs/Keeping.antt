@@ -7,7 +7,7 @@ use Rattle.std.specs.Int.{w64, to_be_bytes}
 use Rattle.std.proofs.lemmas.List.{drop-take, drop_at, length-take-le, take_all, take_at}
 use Rattle.std.proofs.lemmas.List.Elements.{All-cons, All-nil, Contains-push}
 use Rattle.wtf_dev.specs.Counts.{Rose}
-use Rattle.wtf_dev.specs.Disk.{DiskContent, DiskFileView, DiskGoesOn, DiskKind, DiskLaws, DiskLeaves, DiskReads, IsFileImage, IsSettled}
+use Rattle.wtf_dev.specs.Disk.{DiskContent, DiskFileView, DiskGoesOn, DiskKind, DiskLaws, DiskLeaves, DiskReads, IsFileImage, IsSettled, SameElsewhere}
 use Rattle.wtf_overlay.specs.Reading.{◌>>=◌}
 use Rattle.wtf_changes.specs.Applying.{IsSomeImage}
 use Rattle.wtf_imagefmt.specs.declared.records.Image.{Image}
@@ -25,7 +25,7 @@ use Rattle.wtf_journal.specs.Records.{BeforeOrAfter, RestsAt, framed, gated, rec
 use Rattle.wtf_journal.specs.Scan.{JournalGives, held_after, make_on}
 use Rattle.wtf_journal.specs.Views.{JournalView, image_in}
 use Rattle.wtf_journal.proofs.Gives.{read_as, text_as}
-use Rattle.wtf_journal.proofs.Scans.{held_after-push, means_one}
+use Rattle.wtf_journal.proofs.Scans.{held_after-push, same_bytes, same_meaning}
 
 -- the bytes of an image that was appended are there
 module _ (s image : List ℕ) (end : ℕ) (inside : end < length s) where
@@ -97,6 +97,7 @@ refuses kind k short images le rose = record {
   journal = refl;
   disk = refl;
   goes_on = record { faults = omega arith; size = λ f. omega arith; tells = refl };
+  elsewhere = λ tells f ne. refl;
   reach = λ inside. inside;
   short = le;
   fails = λ is. is;
@@ -139,6 +140,7 @@ module _ {D : Type 0} (kind : DiskKind D) (old new : JournalKeeper D) (same : ne
     journal = journal;
     disk = disk;
     goes_on = r.goes_on;
+    elsewhere = λ tells f ne. r.files tells f;
     reach = λ inside. omega (arith, inside, ap (λ (j : JournalView). j.end) same, r.sizes 0);
     short = omega (arith, short);
     fails = λ is. failed_read ∙ is;
@@ -156,7 +158,7 @@ module _ {D : Type 0} (kind : DiskKind D) (old new : JournalKeeper D) (same : ne
       in_call kind old.disk.now new.disk.now (MeansOneOf (kind.view old.disk.now) []) (r.time tells) (λ c left. inl (
         c 0,
         subst (λ (v : DiskFileView). IsFileImage v (c 0)) (r.files tells 0) (left 0),
-        λ held gives. gives,
+        same_bytes held_by None (c 0) (c 0) refl,
       )),
     );
   }
@@ -171,6 +173,7 @@ pub record AppendsImage {D : Type 0} (kind : DiskKind D) (old new : JournalKeepe
   pub any_moment : (bodies : List (List ℕ)) → (kind.view old.disk.now).tells ≡ true → RestsAt kind old.disk.now old.journal.now.end bodies
       → DiskLeaves kind old.disk.now new.disk.now (λ c. BeforeOrAfter bodies (0 ∷ image) (c 0))
   pub goes_on : DiskGoesOn kind old.disk.now new.disk.now
+  pub elsewhere : (kind.view old.disk.now).tells ≡ true → SameElsewhere 0 (kind.view old.disk.now) (kind.view new.disk.now)
 
 -- what it makes where it is done
 pub record ImageAppended {D : Type 0} (kind : DiskKind D) (old new : JournalKeeper D) (image : List ℕ) : Type 0 where
@@ -218,8 +221,7 @@ module _ {D : Type 0} (kind : DiskKind D) (laws : DiskLaws kind) (old new : Jour
     means tells c (inl before) = inl (
       seen,
       laws.reads old.disk.now tells 0,
-      λ held gives. subst (λ (h : Held). JournalGives held_by None (c 0) h) (means_one held_by None seen s.held held given gives)
-          (record { bodies = s.bodies; has = before; held_is = s.held_is }),
+      same_meaning held_by None seen (c 0) s.held given (record { bodies = s.bodies; has = before; held_is = s.held_is }),
     )
     means tells c (inr after) = inr (
       image,
@@ -255,6 +257,7 @@ module _ {D : Type 0} (kind : DiskKind D) (laws : DiskLaws kind) (old new : Jour
       journal = w.journal;
       disk = w.disk;
       goes_on = w.goes_on;
+      elsewhere = w.elsewhere;
       reach = λ inside. ok.reach;
       short = omega (arith, ok.short);
       fails = λ is. absurd (cc (w.whole, is));
@@ -294,6 +297,7 @@ module _ {D : Type 0} (kind : DiskKind D) (laws : DiskLaws kind) (old new : Jour
       journal = w.journal;
       disk = w.disk;
       goes_on = w.goes_on;
+      elsewhere = w.elsewhere;
       reach = λ inside. omega (arith, inside, w.goes_on.size 0, ap (λ (j : JournalView). j.end) failed.stays);
       short = failed.short;
       fails = λ is. is_failed;

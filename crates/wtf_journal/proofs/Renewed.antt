@@ -4,9 +4,10 @@ use Rattle.wtf_dev.specs.Disk.{DiskKind, DiskLaws, DiskLeaves}
 use Rattle.wtf_journal.specs.Held.{Held, HeldView, IsJournalOpened, IsTextOf, ends_in_changes, held_by, nothing_held, renewal, view_by}
 use Rattle.wtf_journal.specs.Moments.{joins, weaker}
 use Rattle.wtf_journal.specs.Records.{HasBodies, RestsAt}
-use Rattle.wtf_journal.specs.Scan.{IsBadAt, JournalGives, KeepsMeaning, OpensTo, held_after}
+use Rattle.wtf_journal.specs.Scan.{IsBadAt, KeepsMeaning, OpensTo, held_after}
 use Rattle.wtf_journal.proofs.Coarse.{bad_seen, bad_back, keeps_seen, opens_seen}
 use Rattle.wtf_journal.proofs.Gives.{behind_after, renewed, rows_after, view_rows}
+use Rattle.wtf_journal.proofs.Scans.{same_meaning}
 
 abbrev rows : HeldView → Held
 rows v = v.rows
@@ -62,8 +63,8 @@ module _ (start : HeldView) (nothing : start ≡ nothing_held) where
           (λ c has. (
             ((kind.view old).file 0).seen,
             laws.reads old tells 0,
-            λ held gives.
-                subst (λ (h : Held). JournalGives held_by None (c 0) h) (sym (seen.only held gives))
+            same_meaning held_by None ((kind.view old).file 0).seen (c 0) v.rows
+                (record { bodies = seen.bodies; has = seen.has; held_is = seen.held_is })
                 (⊎_elim
                 (λ before. record { bodies = seen.bodies; has = before; held_is = seen.held_is })
                 (λ more. record { bodies = after; has = more; held_is = same })

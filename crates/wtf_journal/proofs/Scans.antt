@@ -8,7 +8,7 @@ use Rattle.std.proofs.lemmas.List.{take_at, drop_at}
 use Rattle.std.proofs.lemmas.List.Elements.{All-nil, All-head, All-tail}
 use Rattle.wtf_dev.specs.Disk.{DiskContent, DiskView}
 use Rattle.wtf_journal.specs.Records.{framed, records, AreShort, HasBodies}
-use Rattle.wtf_journal.specs.Scan.{BodyMakes, make_on, held_after, JournalGives, KeepsJournal, KeepsMeaning, ReadsTo, EndsInside, IsBadAt}
+use Rattle.wtf_journal.specs.Scan.{BodyMakes, make_on, held_after, JournalGives, KeepsJournal, KeepsMeaning, SameMeaning, ReadsTo, EndsInside, IsBadAt}
 use Rattle.wtf_journal.proofs.Bytes.{records-push, short-push}
 
 -- what a loop over the records knows: they were read up to `rest`
@@ -111,16 +111,32 @@ module _ {M : Type 0} (makes : BodyMakes M) where
     means_one c g h p q = ap (held_or g)
         (sym p.held_is ∙ ap (λ (bodies : List (List ℕ)). held_after makes (Some start) bodies) (one_list p.bodies q.bodies c p.has q.has) ∙ q.held_is)
 
-    pub short_means : (c d : List ℕ) (held : M) → length c ≤ 1 → length d ≤ 1 → JournalGives makes start c held → JournalGives makes start d held
-    short_means c d held short small s = record {
-      bodies = [];
-      has = inr (refl, small);
-      held_is = ap (λ (qs : List (List ℕ)). held_after makes (Some start) qs) (sym (short_none s.bodies c short s.has)) ∙ s.held_is;
-    }
+    -- one of at most one byte stands for the start
+    pub short_gives : (c : List ℕ) → length c ≤ 1 → JournalGives makes start c start
+    short_gives c short = record { bodies = []; has = inr (refl, short); held_is = refl }
+
+    module _ (before now : List ℕ) where
+      -- the bytes are the same
+      pub same_bytes : now ≡ before → SameMeaning makes start before now
+      same_bytes is = record {
+        same = λ held. (subst (λ (l : List ℕ). JournalGives makes start l held) (sym is), subst (λ (l : List ℕ). JournalGives makes start l held) is);
+        bad = λ none. is;
+      }
+
+      -- both stand for this
+      pub same_meaning : (held : M) → JournalGives makes start before held → JournalGives makes start now held → SameMeaning makes start before now
+      same_meaning held was is = record {
+        same = λ other. (
+          λ gives. subst (λ (h : M). JournalGives makes start now h) (means_one before held other was gives) is,
+          λ gives. subst (λ (h : M). JournalGives makes start before h) (means_one now held other is gives) was,
+        );
+        bad = λ none. absurd (none held was);
+      }
 
     pub keeps_meaning : (old : DiskView) (c : DiskContent) → KeepsJournal old c → KeepsMeaning makes start old c
-    keeps_meaning old c (c0, image, inl same) = (c0, image, λ held gives. subst (λ (l : List ℕ). JournalGives makes start l held) (sym same) gives)
-    keeps_meaning old c (c0, image, inr short) = (c0, image, λ held gives. short_means c0 (c 0) held short.0 short.1 gives)
+    keeps_meaning old c (c0, image, inl same) = (c0, image, same_bytes c0 (c 0) same)
+    keeps_meaning old c (c0, image, inr short) =
+        (c0, image, same_meaning c0 (c 0) start (short_gives c0 short.0) (short_gives (c 0) short.1))
 
     pub so_far_none : (c : List ℕ) → 0 < length c → SoFar makes start c start c
     so_far_none c some = record { bodies = []; split = refl; short = none_short; held_is = refl; some = some }

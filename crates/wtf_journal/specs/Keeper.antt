@@ -4,7 +4,7 @@ use Rattle.std.specs.List.{All}
 use Rattle.std.proofs.Common.{arith, ◌∙◌, sym, ap, subst, inl, inr, ⊎_elim, append-nil}
 use Rattle.std.proofs.lemmas.List.Elements.{All-append, All-nil}
 use Rattle.wtf_dev.specs.Counts.{Rose}
-use Rattle.wtf_dev.specs.Disk.{DiskGoesOn, DiskKind, DiskLaws, DiskLeaves}
+use Rattle.wtf_dev.specs.Disk.{DiskGoesOn, DiskKind, DiskLaws, DiskLeaves, SameElsewhere}
 use Rattle.wtf_dev.specs.Keep.{KeeperKept, KeeperView}
 use Rattle.wtf_dev.specs.MemoryLaws.{keeper_kept_on, keeper_kept_same}
 use Rattle.wtf_changes.specs.Applying.{IsSomeImage}
@@ -57,6 +57,7 @@ pub record JournalFollows {D : Type 0} (kind : DiskKind D) (old new : JournalKee
   pub journal : new.journal.ghost_name ≡ old.journal.ghost_name
   pub disk : new.disk.ghost_name ≡ old.disk.ghost_name
   pub goes_on : DiskGoesOn kind old.disk.now new.disk.now
+  pub elsewhere : (kind.view old.disk.now).tells ≡ true → SameElsewhere 0 (kind.view old.disk.now) (kind.view new.disk.now)
   pub reach : old.journal.now.end < (kind.view old.disk.now).size 0 → new.journal.now.end < (kind.view new.disk.now).size 0
   pub short : old.short ≤ new.short
   pub fails : old.journal.now.failed ≡ true → new.journal.now.failed ≡ true
@@ -79,6 +80,7 @@ journal_itself kind k = record {
   journal = refl;
   disk = refl;
   goes_on = record { faults = omega arith; size = λ f. omega arith; tells = refl };
+  elsewhere = λ tells f ne. refl;
   reach = λ inside. inside;
   short = omega arith;
   fails = λ is. is;
@@ -149,6 +151,7 @@ module _ {D : Type 0} (kind : DiskKind D) (laws : DiskLaws kind) (a b c : Journa
     journal = q.journal ∙ p.journal;
     disk = q.disk ∙ p.disk;
     goes_on = goes_on_on kind a.disk.now b.disk.now c.disk.now p.goes_on q.goes_on;
+    elsewhere = λ tells f ne. q.elsewhere (p.goes_on.tells ∙ tells) f ne ∙ p.elsewhere tells f ne;
     reach = λ inside. q.reach (p.reach inside);
     short = omega (arith, p.short, q.short);
     fails = λ is. q.fails (p.fails is);

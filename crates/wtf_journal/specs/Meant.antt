@@ -1,6 +1,6 @@
 -- What a stop leaves of a journal to which images were handed. A keeper gives the proof that such spans join, so that stands here.
 use Rattle.std.specs.Prelude.{zero, suc}
-use Rattle.std.proofs.Common.{◌≡◌, ◌⊎◌, ◌++◌, ℕ, List, None, Some, true, inl, inr, ⊎_elim, arith}
+use Rattle.std.proofs.Common.{◌≡◌, ◌∙◌, ◌⊎◌, ◌++◌, ℕ, List, None, Some, true, inl, inr, ⊎_elim, arith}
 use Rattle.std.specs.List.{Contains}
 use Rattle.std.proofs.lemmas.List.Elements.{Contains-append_left, Contains-append_right}
 use Rattle.wtf_imagefmt.specs.Images.{HasText}
@@ -8,7 +8,7 @@ use Rattle.wtf_imagefmt.specs.Rows.{ImageRows}
 use Rattle.wtf_dev.specs.Disk.{DiskContent, DiskKind, DiskLaws, DiskLeaves, DiskView, IsFileImage, MayLeave}
 use Rattle.wtf_journal.specs.Held.{held_by}
 use Rattle.wtf_journal.specs.Moments.{joins}
-use Rattle.wtf_journal.specs.Scan.{JournalGives, KeepsMeaning}
+use Rattle.wtf_journal.specs.Scan.{JournalGives, KeepsMeaning, SameMeaning}
 
 -- the journal stands for this image
 pub record StandsForImage (c image : List ℕ) : Type 0 where
@@ -19,6 +19,12 @@ pub record StandsForImage (c image : List ℕ) : Type 0 where
 -- it stands for what it could stand for before, or for one of the images
 abbrev pub MeansOneOf : DiskView → List (List ℕ) → DiskContent → Type 0
 MeansOneOf old images c = KeepsMeaning held_by None old c ⊎ ((image : List ℕ) × Contains images image × StandsForImage (c 0) image)
+
+meaning_on : (a b c : List ℕ) → SameMeaning held_by None a b → SameMeaning held_by None b c → SameMeaning held_by None a c
+meaning_on a b c p q = record {
+  same = λ held. (λ gives. (q.same held).0 ((p.same held).0 gives), λ gives. (p.same held).1 ((q.same held).1 gives));
+  bad = λ none. q.bad (λ held gives. none held ((p.same held).1 gives)) ∙ p.bad none;
+}
 
 -- one file in place of the first
 abbrev with_first : List ℕ → DiskContent → DiskContent
@@ -46,8 +52,12 @@ module _ {D : Type 0} (kind : DiskKind D) (laws : DiskLaws kind) (a b : D) (xs y
   later c (inl (c0, image, keeps)) = ⊎_elim
       (λ was. inl (c0, was, keeps))
       (λ means. ⊎_elim
-      (λ kept. inl (kept.0, kept.1, λ held gives. keeps held (kept.2 held gives)))
-      (λ old. inr (old.0, Contains-append_left xs ys old.0 old.1, record { rows = old.2.rows; text = old.2.text; gives = keeps (Some old.2.rows) old.2.gives }))
+      (λ kept. inl (kept.0, kept.1, meaning_on kept.0 c0 (c 0) kept.2 keeps))
+      (λ old. inr (
+        old.0,
+        Contains-append_left xs ys old.0 old.1,
+        record { rows = old.2.rows; text = old.2.text; gives = (keeps.same (Some old.2.rows)).0 old.2.gives },
+      ))
       means)
       (middle c0 image)
 

@@ -1,5 +1,5 @@
 -- What a journal stands for.
-use Rattle.std.specs.Prelude.{◌≡◌, ◌⊎◌, ℕ, ◌<◌, ◌≤◌, ◌^◌, Option, None, Some, List, [], ◌∷◌, ◌++◌, length}
+use Rattle.std.specs.Prelude.{◌≡◌, ◌↔◌, ◌⊎◌, ℕ, ◌<◌, ◌≤◌, ◌^◌, Option, None, Some, List, [], ◌∷◌, ◌++◌, length}
 use Rattle.wtf_dev.specs.Disk.{DiskContent, DiskKind, DiskView, IsFileImage}
 use Rattle.wtf_journal.specs.Records.{AreShort, EndsClosed, HasBodies, RestsAt, framed, records}
 
@@ -25,10 +25,14 @@ pub record JournalGives {M : Type 0} (makes : BodyMakes M) (start : M) (c : List
 abbrev pub KeepsJournal : DiskView → DiskContent → Type 0
 KeepsJournal old c = (c0 : List ℕ) × IsFileImage (old.file 0) c0 × ((c 0 ≡ c0) ⊎ ((length c0 ≤ 1) × (length (c 0) ≤ 1)))
 
--- A stop leaves files of which the journal stands for what it could stand for before.
+-- Bytes stand for what others stand for, and for nothing else. Where those stand for nothing, they are those.
+pub record SameMeaning {M : Type 0} (makes : BodyMakes M) (start : M) (before now : List ℕ) : Type 0 where
+  pub same : (held : M) → JournalGives makes start before held ↔ JournalGives makes start now held
+  pub bad : ((held : M) → JournalGives makes start before held → ⊥) → now ≡ before
+
+-- A stop leaves files of which the journal stands for what one that it could be before stands for.
 abbrev pub KeepsMeaning : {M : Type 0} → BodyMakes M → M → DiskView → DiskContent → Type 0
-KeepsMeaning {M = M} makes start old c =
-    (c0 : List ℕ) × IsFileImage (old.file 0) c0 × ((held : M) → JournalGives makes start c0 held → JournalGives makes start (c 0) held)
+KeepsMeaning {M = M} makes start old c = (before : List ℕ) × IsFileImage (old.file 0) before × SameMeaning makes start before (c 0)
 
 -- a read of a whole journal: its records end with a closed gate at `end`, and give this
 pub record ReadsTo {M : Type 0} (makes : BodyMakes M) (start : M) (c : List ℕ) (end : ℕ) (held : M) : Type 0 where

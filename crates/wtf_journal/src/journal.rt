@@ -144,6 +144,9 @@ impl Journal {
         ensures cause { IsErrOf result JournalFault.Failed →
             Rose (D.kind.view disk.old).faults (D.kind.view disk.new).faults }
         ensures not_refused { (n : ℕ) → IsErrOf result (JournalFault.NotAJournal n) → ⊥ }
+
+        // It takes its memory first.
+        ensures memory { IsErrOf result JournalFault.Memory → disk.new ≡ disk.old }
     {
         self.failed = true;
         let bytes = record_of(self.alloc, body)?;

@@ -13,7 +13,7 @@ use wtf_dev::{Disk, Failed};
 
 impl Journal {
     /// Opens the journal on a disk, and gives the bodies of its records to what they mean. A stop at any moment of it leaves a
-    /// journal that stands for what it could stand for before.
+    /// journal that stands for what it could stand for before, and for nothing else. One that is refused keeps its bytes.
     pub fn open_with<D: Disk, M: Meaning>(
         alloc: Global,
         meaning: &mut M,
@@ -28,12 +28,20 @@ impl Journal {
             IsBadAt M.makes meaning.old ((D.kind.view disk.old).file 0).seen n }
         ensures exact { OnOk result ((D.kind.view disk.old).tells ≡ true → (n : ℕ) →
             IsBadAt M.makes meaning.old ((D.kind.view disk.old).file 0).seen n → ⊥) }
+
+        // Then it has the bytes that it had, and nothing of it is pending.
+        ensures untouched { (n : ℕ) → IsErrOf result (JournalFault.NotAJournal n) →
+            (D.kind.view disk.old).tells ≡ true →
+            IsSettled ((D.kind.view disk.old).file 0).seen ((D.kind.view disk.new).file 0) }
         ensures any_moment { (D.kind.view disk.old).tells ≡ true → DiskLeaves D.kind disk.old disk.new
             (KeepsMeaning M.makes meaning.old (D.kind.view disk.old)) }
         ensures elsewhere { (D.kind.view disk.old).tells ≡ true →
             SameElsewhere 0 (D.kind.view disk.old) (D.kind.view disk.new) }
         ensures reach { IfOk result (λ j. (j.failed ≡ false) ×
             (j.end < (D.kind.view disk.new).size 0)) }
+
+        // It has taken no image yet.
+        ensures image { IfOk result (λ j. j.image_len ≡ 0) }
         ensures goes_on { DiskGoesOn D.kind disk.old disk.new }
         ensures cause { IsErrOf result JournalFault.Failed →
             Rose (D.kind.view disk.old).faults (D.kind.view disk.new).faults }

@@ -2,7 +2,7 @@
 
 ghost use Rattle.std.specs.Prelude.{◌≡◌, ◌⊎◌, ◌<◌, ◌∷◌, ◌++◌, ℕ, List, None, true, false, length, IfOk, OnOk, IsErrOf};
 ghost use Rattle.wtf_dev.specs.Counts.{Rose};
-ghost use Rattle.wtf_dev.specs.Disk.{DiskGoesOn, DiskLeaves, SameElsewhere};
+ghost use Rattle.wtf_dev.specs.Disk.{DiskGoesOn, DiskLeaves, IsSettled, SameElsewhere};
 ghost use Rattle.wtf_journal.specs.Held.{IsJournalOpened, held_by, renewal};
 ghost use Rattle.wtf_journal.specs.Records.{HasBodies, RestsAt};
 ghost use Rattle.wtf_journal.specs.Scan.{IsBadAt, KeepsMeaning};
@@ -23,7 +23,7 @@ pub struct Opened {
 impl Journal {
     /// Opens the journal on a disk. A record is 0 and an image, or 1 and changes. Where the last one is of changes, the image
     /// that they give is added as a record. A stop at any moment of it leaves a journal that stands for what it could stand
-    /// for before.
+    /// for before, and for nothing else. One that is refused keeps its bytes.
     pub fn open<D: Disk>(alloc: Global, disk: &mut D) -> Result<Opened, JournalFault>
         ensures opened { IfOk result (λ o. (D.kind.view disk.old).tells ≡ true →
             IsJournalOpened D.kind disk.old disk.new o.journal.end o.image.items) }
@@ -37,6 +37,11 @@ impl Journal {
             IsBadAt held_by None ((D.kind.view disk.old).file 0).seen n }
         ensures exact { OnOk result ((D.kind.view disk.old).tells ≡ true → (n : ℕ) →
             IsBadAt held_by None ((D.kind.view disk.old).file 0).seen n → ⊥) }
+
+        // Then it has the bytes that it had, and nothing of it is pending.
+        ensures untouched { (n : ℕ) → IsErrOf result (JournalFault.NotAJournal n) →
+            (D.kind.view disk.old).tells ≡ true →
+            IsSettled ((D.kind.view disk.old).file 0).seen ((D.kind.view disk.new).file 0) }
         ensures any_moment { (D.kind.view disk.old).tells ≡ true → DiskLeaves D.kind disk.old disk.new
             (KeepsMeaning held_by None (D.kind.view disk.old)) }
         ensures elsewhere { (D.kind.view disk.old).tells ≡ true →

@@ -89,6 +89,33 @@ fn refuses(alloc: Global, bytes: &[u8], at: u64) -> bool {
     }
 }
 
+/// Whether file 0 of a disk has these bytes, and no others.
+fn has(alloc: Global, disk: &mut MemDisk, bytes: &[u8]) -> bool {
+    let Ok(mut read) = vec![in alloc; 0u8; disk.length(0) as usize] else {
+        return false;
+    };
+    disk.read(0, 0, &mut read).is_ok() && read.as_slice() == bytes
+}
+
+/// Whether a journal of these bytes has them when it was refused, as has what each stop leaves of it.
+fn keeps_bytes(alloc: Global, bytes: &[u8]) -> bool {
+    let Some(mut disk) = disk_of(alloc, bytes) else {
+        return false;
+    };
+    if Journal::open(alloc, &mut disk).is_ok() || !has(alloc, &mut disk, bytes) {
+        return false;
+    }
+    for pick in 0..3 {
+        let Some(mut stopped) = left(alloc, &disk, pick) else {
+            return false;
+        };
+        if !has(alloc, &mut stopped, bytes) {
+            return false;
+        }
+    }
+    true
+}
+
 #[test]
 fn a_record_that_is_not_in_the_format_is_refused(rt: HostRuntime) {
     assert!(rt; refuses(rt.alloc(), b"\x01\0\0\0\0\0\0\0\0\0", 0));
@@ -98,6 +125,12 @@ fn a_record_that_is_not_in_the_format_is_refused(rt: HostRuntime) {
     assert!(rt; refuses(rt.alloc(), &ONE[..52], 0));
     assert!(rt; refuses(rt.alloc(), &TWO[..122], 52));
     assert!(rt; refuses(rt.alloc(), &LOST, 52));
+}
+
+#[test]
+fn a_journal_that_is_refused_keeps_its_bytes(rt: HostRuntime) {
+    assert!(rt; keeps_bytes(rt.alloc(), &TWO[..122]));
+    assert!(rt; keeps_bytes(rt.alloc(), &LOST));
 }
 
 /// A disk with the journal of two records, whose calls fail from this number on, counted from then.

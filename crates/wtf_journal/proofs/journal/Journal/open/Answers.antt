@@ -15,6 +15,9 @@ pub returns-in-Err-clause-refused : goal.returns-in-Err-clause-refused
 returns-in-Err-clause-refused g c = λ n is tells.
     refused_seen c.none-held.result c.none-held.ensures ((g.D.Disk.kind.view c.args.disk.now).file 0).seen n (c.in-Err.ensures.refused n (err_of _ _ is) tells)
 
+pub returns-in-Err-clause-untouched : goal.returns-in-Err-clause-untouched
+returns-in-Err-clause-untouched g c = λ n is tells. c.in-Err.ensures.untouched n (err_of _ _ is) tells
+
 pub returns-in-Err-renew-clause-any_moment : goal.returns-in-Err-renew-clause-any_moment
 returns-in-Err-renew-clause-any_moment g c = λ tells.
     all_moments c.none-held.result c.none-held.ensures g.D.Disk.kind c.args.disk.now c.open_with.new.disk c.in-Ok.journal.end c.open_with.new.meaning
@@ -48,6 +51,9 @@ returns-clause-opened g c = λ tells.
 
 pub returns-in-Err-renew-clause-refused : goal.returns-in-Err-renew-clause-refused
 returns-in-Err-renew-clause-refused g c = λ n is tells. absurd (c.in-Err-renew.ensures.not_refused n (err_of _ _ is))
+
+pub returns-in-Err-renew-clause-untouched : goal.returns-in-Err-renew-clause-untouched
+returns-in-Err-renew-clause-untouched g c = λ n is tells. absurd (c.in-Err-renew.ensures.not_refused n (err_of _ _ is))
 
 pub returns-clause-elsewhere : goal.returns-clause-elsewhere
 returns-clause-elsewhere g c = λ tells f ne.

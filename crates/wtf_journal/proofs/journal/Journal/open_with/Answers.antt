@@ -36,6 +36,12 @@ returns-in-Err-read-clause-any_moment g c = λ tells.
     (c.settle.ensures.any_moment tells)
     (c.settle.ensures.goes_on.tells ∙ tells) (c.in-Ok.ensures.settled tells (omega (arith, c.if-size-le1.false))) c.read.ensures.kept
 
+pub returns-in-Err-read-clause-untouched : goal.returns-in-Err-read-clause-untouched
+returns-in-Err-read-clause-untouched g c = λ n is tells.
+    subst (λ (v : DiskFileView). IsSettled ((g.D.Disk.kind.view c.args.disk.now).file 0).seen v)
+    (sym (c.read.ensures.kept.files (c.settle.ensures.goes_on.tells ∙ tells) 0))
+    (c.in-Ok.ensures.settled tells (omega (arith, c.if-size-le1.false)))
+
 pub returns-clause-any_moment : goal.returns-clause-any_moment
 returns-clause-any_moment g c = λ tells.
     read_keeps g.D.Disk.kind g.met.D.Disk.laws c.args.disk.now c.settle.new.disk tells g.M.Meaning.makes c.args.meaning.now c.read.new.disk

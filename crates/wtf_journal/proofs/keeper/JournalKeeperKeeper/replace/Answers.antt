@@ -21,6 +21,7 @@ returns-in-Ok-clause-follows g c =
       is_image = c.if-not-takes.ensures.image refl;
       any_moment = c.append.ensures.any_moment;
       goes_on = c.append.ensures.goes_on;
+      elsewhere = c.append.ensures.elsewhere;
     })
     (record {
       acknowledged = c.in-Ok.ensures.acknowledged;
@@ -44,6 +45,7 @@ returns-in-Ok-clause-replaced g c =
       is_image = c.if-not-takes.ensures.image refl;
       any_moment = c.append.ensures.any_moment;
       goes_on = c.append.ensures.goes_on;
+      elsewhere = c.append.ensures.elsewhere;
     })
     (record {
       acknowledged = c.in-Ok.ensures.acknowledged;
@@ -65,6 +67,7 @@ returns-in-Err-Failed-clause-follows g c =
       is_image = c.if-not-takes.ensures.image refl;
       any_moment = c.append.ensures.any_moment;
       goes_on = c.append.ensures.goes_on;
+      elsewhere = c.append.ensures.elsewhere;
     })
     (record {
       front = c.append.ensures.front;
@@ -86,5 +89,6 @@ returns-in-Err-clause-follows g c =
       is_image = c.if-not-takes.ensures.image refl;
       any_moment = c.append.ensures.any_moment;
       goes_on = c.append.ensures.goes_on;
+      elsewhere = c.append.ensures.elsewhere;
     })
     (record { front = c.append.ensures.front; stays = c.in-Err.ensures.stays; short = le; cause = inl rose })
