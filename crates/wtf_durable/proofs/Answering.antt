@@ -9,8 +9,12 @@ use Rattle.wtf_dev.specs.Keep.{KeeperView}
 use Rattle.wtf_dev.specs.Store.{StoreKind}
 use Rattle.wtf_journal.specs.Follows.{SyncedState, synced_kind}
 use Rattle.wtf_replica.specs.Inside.{size_in}
+use Rattle.wtf_replica.specs.Spans.{Span}
 use Rattle.wtf_model.specs.declared.answer.Answer.{Answer}
 use Rattle.wtf_model.specs.declared.event.Event.{Event}
+use Rattle.wtf_region.specs.Cached.{Remembered}
+use Rattle.wtf_clients.specs.Asked.{lending}
+use Rattle.wtf_clients.specs.Leaving.{LeavesAlone}
 use Rattle.wtf_clients.specs.Safe.{LieIn}
 use Rattle.wtf_clients.specs.Saves.{Saves}
 use Rattle.wtf_clients.specs.Sounds.{AreSound}
@@ -18,10 +22,10 @@ use Rattle.wtf_clients.specs.Views.{TablesView, watching}
 use Rattle.wtf_clients.proofs.Soundness.{watched_sound}
 use Rattle.wtf_core.specs.Promises.{CoreGoesOn, GoesOnTold, HasPunched, IsCaused, Obeys, Scene, Stores, scene, span_of}
 use Rattle.wtf_core.specs.Turns.{IsLine}
-use Rattle.wtf_core.specs.Views.{CoreView}
+use Rattle.wtf_core.specs.Views.{CoreView, lent_of}
 use Rattle.wtf_core.proofs.ToldLines.{none_ranges}
 use Rattle.wtf_durable.specs.Handled.{Handled, Noted}
-use Rattle.wtf_durable.specs.Promises.{DurableDoes, Records}
+use Rattle.wtf_durable.specs.Promises.{DurableDoes, LeavesStores, Records}
 use Rattle.wtf_durable.specs.Sound.{IsSoundDurable}
 use Rattle.wtf_durable.specs.Views.{DurableScene, DurableView, blind, core_scene, durable_scene}
 use Rattle.wtf_durable.proofs.Blind.{caused_blind, goes_blind, obeys_blind, save_fault, stores_blind}
@@ -45,6 +49,7 @@ module _ {S : Type 0} (kind : StoreKind S) (old : Scene S) (shelf : List S) (kee
     pub settings : core.settings ≡ mid.settings
     pub number : core.tables.kv.number ≡ mid.tables.kv.number
     pub next_tx : core.tables.next_tx ≡ mid.tables.next_tx
+    pub lists : core.lists ≡ mid.lists
 
   module _ (on : CoreGoesOn kind old (scene shelf keeper mid) e a) (obeys : Obeys kind old (scene shelf keeper mid) e a)
       (stored : Stores kind old (scene shelf keeper mid) e a) (caused : IsCaused kind old (scene shelf keeper mid) e a)
@@ -62,6 +67,7 @@ module _ {S : Type 0} (kind : StoreKind S) (old : Scene S) (shelf : List S) (kee
       settings = refl;
       number = refl;
       next_tx = refl;
+      lists = refl;
     }
 
     answered_behind : (blind : old.keeper.tells ≡ true → ⊥) → IsLine kind (span_of old (scene shelf keeper mid)) old.core mid e a
@@ -82,6 +88,7 @@ module _ {S : Type 0} (kind : StoreKind S) (old : Scene S) (shelf : List S) (kee
           settings = refl;
           number = saves.number;
           next_tx = saves.next_tx;
+          lists = refl;
         }
 
     pub answered_by : (blind : old.keeper.tells ≡ true → ⊥) → IsLine kind (span_of old (scene shelf keeper mid)) old.core mid e a
@@ -165,6 +172,9 @@ module _ {S D : Type 0} (stores : DiskKind S) (kind : DiskKind D) (old : Durable
             (λ is h. save_fault k (span_of (core_scene kind old) (scene shelf w new.core)) old.durable.core.settings _ _ e rose_on h) by.caused;
         told = by.told;
         punched = by.punched;
+        leaves = subst (λ (lists : Remembered). LeavesAlone k (span_of (core_scene kind old) (scene shelf w' new.core))
+            (lending old.durable.core.settings old.durable.core.lists lists) old.durable.core.tables e) (sym by.lists) handled.leaves;
+        saves = record { synced = handled.saves.synced; out = handled.saves.out };
       }
 
 -- ---- an event that ends behind the core's call
@@ -185,6 +195,11 @@ module _ {S D : Type 0} (stores : DiskKind S) (kind : DiskKind D) (old mid : Dur
       handled.line))))
       handled.punched.punches.are)
       handled.punched.punches.follows
+
+-- what a line leaves alone, whatever is known of the lists then
+pub stores_left : {S : Type 0} (kind : StoreKind S) (t : Span S) (old mid : CoreView) (e : Event)
+    → LeavesAlone kind t (lent_of old mid) old.tables e → LeavesStores kind t old e
+stores_left kind t old mid e leaves = record { down = leaves.down; syncs = leaves.syncs; lists = mid.lists; files = leaves.files }
 
 -- a count that rose later rose
 pub rose_later : (a b c : ℕ) → a ≤ b → Rose b c → Rose a c

@@ -3,16 +3,21 @@ use Rattle.std.proofs.Common.{◌≡◌, ◌≢◌, ◌⊎◌, ℕ, Bool, true, 
 use Rattle.std.specs.Prelude.{Result, IfOk, IsErrOf, IsOk, OnErr, OnOk}
 use Rattle.wtf_dev.specs.Counts.{Rose}
 use Rattle.wtf_dev.specs.Disk.{DiskKind}
+use Rattle.wtf_dev.specs.Store.{StoreKind}
 use Rattle.wtf_journal.specs.declared.keeper.JournalKeeper.{JournalKeeper}
 use Rattle.wtf_journal.specs.Follows.{SyncedState, synced_kind}
 use Rattle.wtf_journal.specs.Keeper.{journal_keeper_view}
 use Rattle.wtf_replica.specs.Downs.{is_down}
-use Rattle.wtf_replica.specs.Outs.{HasRisen}
+use Rattle.wtf_replica.specs.Outs.{HasRisen, SameLengths}
+use Rattle.wtf_replica.specs.Spans.{Span}
 use Rattle.wtf_model.specs.declared.answer.Answer.{Answer}
 use Rattle.wtf_model.specs.declared.answer.Answer.TheVariants as answer
 use Rattle.wtf_model.specs.declared.event.Event.TheVariants as event
+use Rattle.wtf_clients.specs.Asked.{Lending}
+use Rattle.wtf_clients.specs.Leaving.{LeavesAlone}
 use Rattle.wtf_clients.specs.Outcomes.{SomeOut}
-use Rattle.wtf_core.specs.Promises.{CoreDoes, CoreFails, CoreKeeps, scene}
+use Rattle.wtf_clients.specs.Views.{TablesView}
+use Rattle.wtf_core.specs.Promises.{CoreDoes, CoreFails, CoreStays, scene}
 use Rattle.wtf_core.specs.Views.{CoreView}
 use Rattle.wtf_durable.specs.declared.fault.DurableFault.{DurableFault}
 use Rattle.wtf_durable.specs.declared.fault.DurableFault.TheVariants as fault
@@ -22,13 +27,19 @@ use Rattle.wtf_durable.specs.Views.{DurableView, ReachesGate, durable_scene}
 use Rattle.wtf_durable.proofs.Handling.{hands_by, save_cause, the_span, turn_span}
 use Rattle.wtf_durable.proofs.Judging.{cause_result, handed_by, handled_result}
 
+-- a save has no place to which bytes of it go, so no file grows
+pub save_lengths : {S : Type 0} (kind : StoreKind S) (t : Span S) (lent : Lending) (tables : TablesView) → LeavesAlone kind t lent tables event.Save
+    → SameLengths kind t.before t.after
+save_lengths kind t lent tables leaves = ⊎_elim (λ same. same) (λ grown. absurd grown.1.3) leaves.files
+
 module _ {S D E : Type 0} (stores : DiskKind S) (kind : DiskKind D) (k k' : JournalKeeper D) (shelf shelf' : List (SyncedState S)) (core core' : CoreView)
     (s : Result Answer E)
     (does : IfOk s (CoreDoes (synced_kind stores) (turn_span kind k k' core) (scene shelf (journal_keeper_view kind k) core)
     (scene shelf' (journal_keeper_view kind k') core') event.Save))
     (fails : OnErr s (CoreFails (synced_kind stores) (turn_span kind k k' core) (scene shelf (journal_keeper_view kind k) core)
     (scene shelf' (journal_keeper_view kind k') core') event.Save))
-    (stays : CoreKeeps core core') (none : k.short ≡ 0) (was : k.journal.now.failed ≡ false) (disk : D) (disk_is : disk ≡ k'.disk.now)
+    (stays : CoreStays (synced_kind stores) (scene shelf (journal_keeper_view kind k) core) (scene shelf' (journal_keeper_view kind k') core') event.Save)
+    (none : k.short ≡ 0) (was : k.journal.now.failed ≡ false) (disk : D) (disk_is : disk ≡ k'.disk.now)
     (old : DurableView) (old_is : ◌≡◌ {A = DurableView} (record { core = core; journal = k.journal.now }) old) where
   pub begin_hands : HandsImages kind k.disk.now disk old.journal.end old.core
   begin_hands =

@@ -1,5 +1,5 @@
 -- What the core promises of a line over a journal as the keeper of its images, as it is told of the journal's disk.
-use Rattle.std.proofs.Common.{◌≡◌, ◌≢◌, ◌⊎◌, ◌++◌, ◌∷◌, ℕ, true, false, List, [], map, refl, sym, ◌∙◌, subst, inl, ⊎_elim}
+use Rattle.std.proofs.Common.{◌≡◌, ◌≢◌, ◌⊎◌, ◌<◌, ◌≤◌, ◌++◌, ◌∷◌, ℕ, true, false, List, [], map, refl, sym, ◌∙◌, subst, inl, ⊎_elim}
 use Rattle.std.proofs.Common.{arith, append-nil, true≢false}
 use Rattle.std.specs.List.{Contains}
 use Rattle.wtf_dev.specs.Counts.{Rose}
@@ -13,6 +13,7 @@ use Rattle.wtf_journal.specs.Follows.{SyncedState, synced_kind}
 use Rattle.wtf_journal.specs.Keeper.{JournalFollows, JournalRefuses, image_body, journal_itself, journal_keeper_view}
 use Rattle.wtf_journal.specs.Records.{RestsAt}
 use Rattle.wtf_replica.specs.Downs.{is_down}
+use Rattle.wtf_replica.specs.Outs.{HasSynced}
 use Rattle.wtf_replica.specs.Spans.{Span, span}
 use Rattle.wtf_model.specs.declared.answer.Answer.{Answer}
 use Rattle.wtf_model.specs.declared.answer.Answer.TheVariants as answer
@@ -20,14 +21,19 @@ use Rattle.wtf_model.specs.declared.event.Event.{Event}
 use Rattle.wtf_model.specs.declared.event.Event.TheVariants as event
 use Rattle.wtf_clients.specs.Keeping.{KeeperSpan, KeeperTurn, keeper_span}
 use Rattle.wtf_clients.specs.Outcomes.{SaveFault, SomeOut}
-use Rattle.wtf_core.specs.Promises.{CoreDoes, CoreFails, Scene, CoreKeeps, scene}
-use Rattle.wtf_core.specs.Views.{CoreView}
+use Rattle.wtf_core.specs.Promises.{CoreDoes, CoreFails, CoreStays, IsCaused, IsLeftBy, Scene, scene}
+use Rattle.wtf_core.specs.Views.{CoreView, TablesView}
 use Rattle.wtf_core.proofs.Holding.{handed_one}
 use Rattle.wtf_core.proofs.ToldLines.{none_ranges}
 use Rattle.wtf_durable.proofs.Blind.{caused_blind, goes_blind, obeys_blind, stores_blind}
 use Rattle.wtf_durable.specs.Handled.{Handled, HandlesNot, HandsImages}
-use Rattle.wtf_durable.specs.Promises.{IsImageBody}
+use Rattle.wtf_durable.specs.Promises.{IsImageBody, SavesStores}
 use Rattle.wtf_durable.specs.Views.{DurableScene, ReachesGate, blind, durable_scene}
+
+-- want of memory leaves the number of the next transaction
+left_next : (e : Event) (old new : TablesView) → IsLeftBy e old new → old.next_tx ≤ new.next_tx
+left_next (event.Piece n) old new left = let same = left.next_tx in omega (arith, same)
+left_next e old new left = let same = left.next_tx in omega (arith, same)
 
 -- ---- the journal
 module _ {D : Type 0} (kind : DiskKind D) (k k' : JournalKeeper D) (core : CoreView) where
@@ -59,6 +65,7 @@ module _ {D : Type 0} (kind : DiskKind D) (k k' : JournalKeeper D) (core : CoreV
     images = h.images;
     each = h.each;
     goes_on = h.follows.goes_on;
+    elsewhere = h.follows.elsewhere;
     moments = λ tells stands. (h.follows.moments tells (λ whole. stands)).1;
   }
 
@@ -154,6 +161,9 @@ module _ {S D : Type 0} (stores : DiskKind S) (kind : DiskKind D) (k k' : Journa
   abbrev Does : Event → Answer → Type 0
   Does e a = CoreDoes (synced_kind stores) (turn_span kind k k' core) by_old by_mid e a
 
+  abbrev Stays : Event → Type 0
+  Stays e = CoreStays (synced_kind stores) by_old by_mid e
+
   module _ (none : k.short ≡ 0) (still : k'.short ≡ 0) (was : k.journal.now.failed ≡ false) (whole : k'.journal.now.failed ≡ false) where
     abbrev Rises : Type 0
     Rises = Rose (kind.view k.disk.now).faults (kind.view k'.disk.now).faults
@@ -165,7 +175,31 @@ module _ {S D : Type 0} (stores : DiskKind S) (kind : DiskKind D) (k k' : Journa
     saves_fault rose event.Save b turn is h = save_cause kind k k' core (synced_kind stores) the_span core' none still was whole b turn is
     saves_fault rose f b turn is h = h
 
-    pub handled_by : (e : Event) (a : Answer) → Does e a → CoreKeeps core core' → ReachesGate kind k.disk.now handled_old.durable
+    -- what came of a save of the stores
+    save_out : (rose : Type 0) (f : Event) (b : Answer)
+        → KeeperTurn (synced_kind stores) the_span (turn_span kind k k' core) core.settings core.tables core'.tables f b
+        → b ≡ answer.FaultSave → SaveFault (synced_kind stores) the_span core.settings rose f
+        → SomeOut (synced_kind stores) the_span core.settings.servers
+    save_out rose event.Save b turn is h =
+        ⊎_elim (λ out. out) (λ never. absurd never)
+        (save_cause kind k k' core (synced_kind stores) the_span core' none still was whole {Rises = ⊥} b turn is)
+    save_out rose f b turn is h = absurd h
+
+    save_synced : (f : Event) (b : Answer) → Does f b → (n : ℕ) → f ≡ event.Save → b ≡ answer.Saved n → (j : ℕ) → j < core.settings.servers
+        → HasSynced (synced_kind stores) shelf shelf' j
+    save_synced f b does n asks says =
+        let saved : Does event.Save (answer.Saved n)
+        = subst (λ (c : Answer). Does event.Save c) says (subst (λ (g : Event). Does g b) asks does) in
+        saved.kept.turn.hands.synced
+
+    saves_by : (e : Event) (a : Answer) → Does e a → SavesStores (synced_kind stores) the_span core.settings.servers e a
+    saves_by e a does = record {
+      synced = save_synced e a does;
+      out = λ is. save_out (Rose by_old.keeper.faults by_mid.keeper.faults) e a does.kept.turn is
+          (subst (λ (b : Answer). IsCaused (synced_kind stores) by_old by_mid e b) is does.caused).cause;
+    }
+
+    pub handled_by : (e : Event) (a : Answer) → Does e a → Stays e → ReachesGate kind k.disk.now handled_old.durable
         → Handled stores kind handled_old handled_mid e a
     handled_by e a does stays reach =
         let handed = turn_handed kind k k' core (synced_kind stores) the_span core' e a does.kept.turn in
@@ -176,13 +210,15 @@ module _ {S D : Type 0} (stores : DiskKind S) (kind : DiskKind D) (k k' : Journa
         let adds = turn_adds kind k k' core (synced_kind stores) the_span core' none still was whole e a does.kept.turn in
         record {
           line = does.turn;
-          stays = stays;
+          stays = stays.core;
           goes_on = goes_blind (synced_kind stores) shelf shelf' core core' v v' w w' e a does.goes_on;
           lawful = obeys_blind (synced_kind stores) shelf shelf' core core' v v' w w' e a (λ tell. true≢false (sym tell)) does.lawful;
           stored = stores_blind (synced_kind stores) shelf shelf' core core' v v' w w' e a does.stored;
           caused = caused_blind (synced_kind stores) shelf shelf' core core' v v' w w' e a (saves_fault _ e a does.kept.turn) does.caused;
           told = does.told;
           punched = does.punched;
+          leaves = stays.leaves;
+          saves = saves_by e a does;
           hands = hands_by kind k k' core handed;
           whole = whole;
           reach = handed.follows.reach reach;
@@ -192,10 +228,12 @@ module _ {S D : Type 0} (stores : DiskKind S) (kind : DiskKind D) (k k' : Journa
         }
 
   -- where a flag rose the line was a save, which punches nothing
-  pub flagged_by : (e : Event) (a : Answer) → Does e a → CoreKeeps core core' → (k' ≡ k → ⊥) → HandlesNot stores kind handled_old handled_mid
+  pub flagged_by : (e : Event) (a : Answer) → Does e a → Stays e → (k' ≡ k → ⊥) → HandlesNot stores kind handled_old handled_mid e
   flagged_by e a does stays changed = record {
-    number = stays.number;
-    next_tx = stays.next_tx;
+    number = stays.core.number;
+    next_tx = stays.core.next_tx;
+    no_earlier = does.goes_on.next_tx;
+    leaves = stays.leaves;
     follows = subst (EachFollows (synced_kind stores) shelf shelf')
         (none_ranges core.tables.beside.gc e a does.punched.punches.ranges
         (λ j is. changed (untouched_else kind k k' core (synced_kind stores) the_span core' e a (uncollect e j is) does.kept.turn))
@@ -207,11 +245,13 @@ module _ {S D : Type 0} (stores : DiskKind S) (kind : DiskKind D) (k k' : Journa
       uncollect : (f : Event) (j : ℕ) → f ≡ event.Collect j → f ≢ event.Save
       uncollect f j is saved = absurd (cc (is, saved))
 
-  pub lost_by : (e : Event) → CoreFails (synced_kind stores) (turn_span kind k k' core) by_old by_mid e → CoreKeeps core core'
-      → HandlesNot stores kind handled_old handled_mid
+  pub lost_by : (e : Event) → CoreFails (synced_kind stores) (turn_span kind k k' core) by_old by_mid e → Stays e
+      → HandlesNot stores kind handled_old handled_mid e
   lost_by e fails stays = record {
-    number = stays.number;
-    next_tx = stays.next_tx;
+    number = stays.core.number;
+    next_tx = stays.core.next_tx;
+    no_earlier = left_next e core.tables core'.tables fails.closes.left;
+    leaves = stays.leaves;
     follows = fails.follows;
     hands = hands_by kind k k' core (handed_none kind k k' core fails.untouched);
   }

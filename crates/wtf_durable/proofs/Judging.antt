@@ -7,7 +7,7 @@ use Rattle.wtf_journal.specs.declared.keeper.JournalKeeper.{JournalKeeper}
 use Rattle.wtf_journal.specs.Follows.{SyncedState, synced_kind}
 use Rattle.wtf_model.specs.declared.answer.Answer.{Answer}
 use Rattle.wtf_model.specs.declared.event.Event.{Event}
-use Rattle.wtf_core.specs.Promises.{CoreDoes, CoreFails, CoreKeeps, scene}
+use Rattle.wtf_core.specs.Promises.{CoreDoes, CoreFails, CoreStays, scene}
 use Rattle.wtf_core.specs.Views.{CoreView}
 use Rattle.wtf_journal.specs.Keeper.{journal_keeper_view}
 use Rattle.wtf_durable.specs.Handled.{Handled, HandlesNot}
@@ -31,7 +31,8 @@ module _ {S D E : Type 0} (stores : DiskKind S) (kind : DiskKind D) (k k' : Jour
       by (Ok a) did lost = turn_handed kind k k' core (synced_kind stores) (the_span stores kind k k' shelf shelf' core core') core' e a did.kept.turn
       by (Err why) did lost = handed_none kind k k' core lost.untouched
 
-  module _ (stays : CoreKeeps core core') (none : k.short ≡ 0) (was : k.journal.now.failed ≡ false) (disk : D) (disk_is : disk ≡ k'.disk.now)
+  module _ (stays : CoreStays (synced_kind stores) (scene shelf (journal_keeper_view kind k) core) (scene shelf' (journal_keeper_view kind k') core') e)
+      (none : k.short ≡ 0) (was : k.journal.now.failed ≡ false) (disk : D) (disk_is : disk ≡ k'.disk.now)
       (old : DurableView) (old_is : ◌≡◌ {A = DurableView} (record { core = core; journal = k.journal.now }) old) where
     pub goes_by : DiskGoesOn kind k.disk.now disk
     goes_by = subst (DiskGoesOn kind k.disk.now) (sym disk_is) handed_by.follows.goes_on
@@ -41,7 +42,7 @@ module _ {S D E : Type 0} (stores : DiskKind S) (kind : DiskKind D) (k k' : Jour
         Handled stores kind (durable_scene shelf k.disk.now old) (durable_scene shelf' disk (record { core = core'; journal = k'.journal.now })) e a
 
     abbrev Loses : Type 0
-    Loses = HandlesNot stores kind (durable_scene shelf k.disk.now old) (durable_scene shelf' disk (record { core = core'; journal = k'.journal.now }))
+    Loses = HandlesNot stores kind (durable_scene shelf k.disk.now old) (durable_scene shelf' disk (record { core = core'; journal = k'.journal.now })) e
 
     handles : (a : Answer) → CoreDoes (synced_kind stores) (turn_span kind k k' core) (scene shelf (journal_keeper_view kind k) core)
         (scene shelf' (journal_keeper_view kind k') core') e a → k'.short ≡ 0 → k'.journal.now.failed ≡ false → ReachesGate kind k.disk.now old → Handles a
@@ -55,13 +56,14 @@ module _ {S D E : Type 0} (stores : DiskKind S) (kind : DiskKind D) (k k' : Jour
         (subst (ReachesGate kind k.disk.now) (sym old_is) reach)))
 
     loses : HandlesNot stores kind (durable_scene shelf k.disk.now (record { core = core; journal = k.journal.now }))
-        (durable_scene shelf' k'.disk.now (record { core = core'; journal = k'.journal.now })) → Loses
+        (durable_scene shelf' k'.disk.now (record { core = core'; journal = k'.journal.now })) e → Loses
     loses lost =
         subst
-        (λ (d : D). HandlesNot stores kind (durable_scene shelf k.disk.now old) (durable_scene shelf' d (record { core = core'; journal = k'.journal.now })))
+        (λ (d : D). HandlesNot stores kind (durable_scene shelf k.disk.now old) (durable_scene shelf' d (record { core = core'; journal = k'.journal.now }))
+        e)
         (sym disk_is)
         (subst (λ (v : DurableView). HandlesNot stores kind (durable_scene shelf k.disk.now v)
-        (durable_scene shelf' k'.disk.now (record { core = core'; journal = k'.journal.now }))) old_is lost)
+        (durable_scene shelf' k'.disk.now (record { core = core'; journal = k'.journal.now })) e) old_is lost)
 
     -- ---- by what was judged
     module _ {F : Type 0} (r : Result Answer F) (failed : Bool) (failed_is : failed ≡ k'.journal.now.failed) where

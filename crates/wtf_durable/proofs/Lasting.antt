@@ -1,5 +1,5 @@
 -- An event that was answered, and added to the journal, outlives every later stop.
-use Rattle.std.proofs.Common.{◌≡◌, ◌++◌, ◌∙◌, ℕ, List, Option, None, Some, sym, ap, subst, append-nil}
+use Rattle.std.proofs.Common.{◌≡◌, ◌++◌, ◌∙◌, ℕ, List, Option, None, Some, sym, ap, subst, append-nil, arith}
 use Rattle.std.specs.Option.{option_map}
 use Rattle.std.specs.Prelude.{MatchOption, ⊤}
 use Rattle.wtf_dev.specs.Disk.{DiskKind, DiskLaws}
@@ -16,6 +16,7 @@ use Rattle.wtf_meta.specs.Contents.{Told}
 use Rattle.wtf_meta.specs.Maps.{Map}
 use Rattle.wtf_clients.specs.Safe.{LieIn}
 use Rattle.wtf_clients.specs.Sounds.{AreSound}
+use Rattle.wtf_core.specs.Named.{IsInside}
 use Rattle.wtf_core.specs.Promises.{CoreHasRoom, Watches}
 use Rattle.wtf_core.specs.Standing.{StandsFor, IsSmall}
 use Rattle.wtf_core.specs.Telling.{TellsCore}
@@ -27,7 +28,7 @@ use Rattle.wtf_durable.specs.Sound.{IsSoundDurable}
 use Rattle.wtf_durable.specs.Views.{DurableScene}
 use Rattle.wtf_durable.proofs.Behind.{now_was}
 use Rattle.wtf_durable.proofs.Pictures.{HavePicture, have_same}
-use Rattle.wtf_durable.proofs.Recorded.{stands_behind, tells_behind}
+use Rattle.wtf_durable.proofs.Recorded.{inside_behind, stands_behind, tells_behind}
 use Rattle.wtf_durable.proofs.Stopping.{durable_leaves, have_at, lawful, new_have, rests, telling, watched_is}
 
 -- What is shown, and what stands, of a core that told of its changes, or had none to tell.
@@ -37,6 +38,8 @@ pub record Carries {S : Type 0} (stores : DiskKind S) (shelf : List (SyncedState
   pub settings : new.settings ≡ mid.settings
   pub stands : (told : Told) (m : Machine) → StandsFor told mid m → StandsFor told new m
   pub tells : TellsCore (synced_kind stores) shelf mid → TellsCore (synced_kind stores) shelf new
+  pub inside : IsInside (synced_kind stores) shelf mid → IsInside (synced_kind stores) shelf new
+  pub next_tx : new.tables.next_tx ≡ mid.tables.next_tx
 
 pub watches_carry : {S : Type 0} (stores : DiskKind S) (shelf : List (SyncedState S)) (mid new : CoreView) → AreSound mid.tables
     → LieIn mid.tables.beside.gc (size_in (synced_kind stores) shelf) → Watches mid new → Carries stores shelf mid new
@@ -50,6 +53,10 @@ watches_carry stores shelf mid new sound lie watches = record {
   tells = λ tells.
       subst (λ (c : CoreView). TellsCore (synced_kind stores) shelf c) (sym watches.rest)
       (tells_behind (synced_kind stores) shelf mid new.tables sound watches.tables lie tells);
+  inside = λ inside.
+      subst (λ (c : CoreView). IsInside (synced_kind stores) shelf c) (sym watches.rest)
+      (inside_behind (synced_kind stores) shelf mid new.tables sound watches.tables inside);
+  next_tx = watches.tables.next_tx;
 }
 
 carries : {S : Type 0} (stores : DiskKind S) (shelf : List (SyncedState S)) (mid new : CoreView) → AreSound mid.tables
@@ -60,6 +67,8 @@ carries stores shelf mid new sound lie None (watched, same) = record {
   settings = ap (λ (c : CoreView). c.settings) same;
   stands = λ told m st. subst (λ (c : CoreView). StandsFor told c m) (sym same) st;
   tells = λ tells. subst (λ (c : CoreView). TellsCore (synced_kind stores) shelf c) (sym same) tells;
+  inside = λ inside. subst (λ (c : CoreView). IsInside (synced_kind stores) shelf c) (sym same) inside;
+  next_tx = ap (λ (c : CoreView). c.tables.next_tx) same;
 }
 carries stores shelf mid new sound lie (Some changes) is = watches_carry stores shelf mid new sound lie is.watches
 
@@ -77,7 +86,7 @@ module _ {S D : Type 0} (stores : DiskKind S) (kind : DiskKind D) (store_laws : 
     had = stands.journaled.bodies ++ handled.saved
 
     abbrev Have : List (List ℕ) → Type 0
-    Have bodies = HavePicture (shown then.tables.kv) then.settings then.tables.kv.number bodies
+    Have bodies = HavePicture (shown then.tables.kv) then.settings then.tables.kv.number then.tables.next_tx bodies
 
     mid_have : (changes : Option (List ℕ)) → MatchOption changes ⊤ (AreChanges then) → Records then new.durable.core changes
         → Have (had ++ changes_body changes)
@@ -88,10 +97,10 @@ module _ {S D : Type 0} (stores : DiskKind S) (kind : DiskKind D) (store_laws : 
     mid_have (Some changes) are is = new_have stores kind store_laws disk_laws old mid new e a sound handled shelf noted.notes m small stands room changes are
 
     behind_have : HavePicture (shown new.durable.core.tables.kv) new.durable.core.settings new.durable.core.tables.kv.number
-        (had ++ changes_body noted.notes.changes)
+        new.durable.core.tables.next_tx (had ++ changes_body noted.notes.changes)
     behind_have =
-        have_same (shown then.tables.kv) (shown new.durable.core.tables.kv) then.settings new.durable.core.settings then.tables.kv.number
-        new.durable.core.tables.kv.number (had ++ changes_body noted.notes.changes) goes.shown_is goes.settings goes.number
+        have_same (had ++ changes_body noted.notes.changes) goes.shown_is goes.settings goes.number
+        (let same = goes.next_tx in omega (arith, same))
         (mid_have noted.notes.changes noted.notes.are noted.records)
 
     journaled : IsJournaled kind new.disk new.durable
@@ -103,6 +112,9 @@ module _ {S D : Type 0} (stores : DiskKind S) (kind : DiskKind D) (store_laws : 
       gives = behind_have.gives;
       next = behind_have.next;
       picture = behind_have.picture;
+      good = behind_have.good;
+      tree = behind_have.tree;
+      begun = behind_have.begun;
     }
 
     stands_then : StandsDurably stores kind new (after m e a)
@@ -118,5 +130,7 @@ module _ {S D : Type 0} (stores : DiskKind S) (kind : DiskKind D) (store_laws : 
   pub handled_lasts : Lasts stores kind old new e a
   handled_lasts = record {
     stands = λ m small stands room. stands_then m small stands room;
-    leaves = λ m small stands room left stop. durable_leaves stores kind store_laws disk_laws new (after m e a) (stands_then m small stands room) left stop;
+    leaves = λ m small stands room left stop.
+        durable_leaves stores kind store_laws disk_laws new (after m e a) (stands_then m small stands room)
+        (subst (λ s. IsInside (synced_kind stores) s new.durable.core) (sym shelf) (goes.inside handled.goes_on.inside)) left stop;
   }

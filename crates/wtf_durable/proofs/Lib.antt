@@ -13,6 +13,7 @@ pub mod Apart
 pub mod AtNumber
 pub mod Pictures
 pub mod Cores
+pub mod Left
 pub mod Trees
 pub mod Finding
 pub mod Smallness

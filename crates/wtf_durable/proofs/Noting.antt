@@ -1,6 +1,6 @@
 -- What is added to the journal behind a line.
 use Rattle.std.proofs.Common.{◌≡◌, ◌<◌, ◌++◌, ◌∷◌, ℕ, true, false, List, [], Some, None, refl, sym, subst, arith, append-nil}
-use Rattle.wtf_dev.specs.Disk.{DiskGoesOn, DiskKind, DiskLeaves}
+use Rattle.wtf_dev.specs.Disk.{DiskGoesOn, DiskKind, DiskLeaves, SameElsewhere}
 use Rattle.wtf_journal.specs.Moments.{stays}
 use Rattle.wtf_journal.specs.Records.{BeforeOrAfter, RestsAt}
 use Rattle.wtf_journal.specs.Views.{JournalView}
@@ -23,6 +23,7 @@ module _ {D : Type 0} (kind : DiskKind D) where
     changes = None;
     are = tt;
     goes_on = goes_same disk;
+    elsewhere = λ tells f ne. refl;
     moments = λ tells bodies rests. stays kind disk _;
   }
 
@@ -42,7 +43,7 @@ module _ {D : Type 0} (kind : DiskKind D) where
 
   -- changes are added
   module _ (before after : D) (old : DurableView) (new : CoreView) (changes : List ℕ) (is : IsRecordOf old.core new changes)
-      (goes : DiskGoesOn kind before after)
+      (goes : DiskGoesOn kind before after) (elsewhere : (kind.view before).tells ≡ true → SameElsewhere 0 (kind.view before) (kind.view after))
       (any_moment : (bodies : List (List ℕ)) → (kind.view before).tells ≡ true → RestsAt kind before old.journal.end bodies
       → DiskLeaves kind before after (λ c. BeforeOrAfter bodies (1 ∷ changes) (c 0))) where
     pub notes_added : Notes kind before after old.journal.end old.core new
@@ -52,6 +53,7 @@ module _ {D : Type 0} (kind : DiskKind D) where
       changes = Some changes;
       are = record { since = is.since; was = is.was; changes = is.changes; counted = is.counted };
       goes_on = goes;
+      elsewhere = elsewhere;
       moments = λ tells bodies rests. any_moment bodies tells rests;
     }
 

@@ -1,23 +1,29 @@
 -- What a durable store promises of an event.
-use Rattle.std.specs.Prelude.{◌≡◌, ◌⊎◌, ◌≤◌, ◌+◌, ℕ, true, List, [], ◌∷◌, ◌++◌, Option, None, Some, Result, Ok, Err}
+use Rattle.std.specs.Prelude.{◌≡◌, ◌⊎◌, ◌<◌, ◌≤◌, ◌+◌, ℕ, true, List, [], ◌∷◌, ◌++◌, Option, None, Some, Result, Ok, Err}
 use Rattle.wtf_dev.specs.Disk.{DiskKind}
+use Rattle.wtf_dev.specs.Store.{StoreKind}
 use Rattle.wtf_journal.specs.Follows.{synced_kind}
 use Rattle.wtf_journal.specs.Records.{RestsAt}
 use Rattle.wtf_imagefmt.specs.Saving.{IsSaveOf}
+use Rattle.wtf_replica.specs.Outs.{HasSynced, IsLeftDown}
+use Rattle.wtf_replica.specs.Spans.{Span}
+use Rattle.wtf_region.specs.Cached.{Remembered}
+use Rattle.wtf_clients.specs.Asked.{lending, line_asked}
+use Rattle.wtf_clients.specs.Leaving.{GrowsOnly, LeavesAlone, SyncsNone}
+use Rattle.wtf_clients.specs.Outcomes.{SomeOut}
 use Rattle.wtf_model.specs.declared.answer.Answer.{Answer}
 use Rattle.wtf_model.specs.declared.answer.Answer.TheVariants as answer
 use Rattle.wtf_model.specs.declared.event.Event.{Event}
 use Rattle.wtf_model.specs.declared.event.Event.TheVariants as event
 use Rattle.wtf_model.specs.Machines.{Machine}
 use Rattle.wtf_model.specs.Steps.{May, after}
-use Rattle.wtf_model.specs.Tree.{Tree}
 use Rattle.wtf_core.specs.Promises.{CoreGoesOn, Obeys, Stores, IsCaused, GoesOnTold, HasPunched, CoreHasRoom, IsRecordOf, span_of}
 use Rattle.wtf_core.specs.Standing.{IsSmall}
 use Rattle.wtf_core.specs.Turns.{IsLine}
-use Rattle.wtf_core.specs.Views.{CoreView}
+use Rattle.wtf_core.specs.Views.{CoreView, lent_of}
 use Rattle.wtf_durable.specs.Journaled.{StandsDurably}
 use Rattle.wtf_durable.specs.Sound.{IsSoundDurable}
-use Rattle.wtf_durable.specs.Stops.{Leftover, LeavesTree, StopIn, StopNow}
+use Rattle.wtf_durable.specs.Stops.{Leftover, LeavesStore, StopIn, StopNow}
 use Rattle.wtf_durable.specs.Views.{DurableScene, ReachesGate, core_scene}
 
 -- What the core tells of installs behind a line, and what it is then: nothing, where none came since, and it stays; or the changes since, and
@@ -57,6 +63,19 @@ pub record DurableStays {S D : Type 0} (stores : DiskKind S) (kind : DiskKind D)
   pub number : new.durable.core.tables.kv.number ≤ old.durable.core.tables.kv.number + 1
   pub next_tx : new.durable.core.tables.next_tx ≤ old.durable.core.tables.next_tx + 1
 
+-- A save that is answered brought the bytes of all servers to where they last; one that failed did so at a server that is out, and never at the journal.
+pub record SavesStores {S : Type 0} (kind : StoreKind S) (t : Span S) (servers : ℕ) (e : Event) (a : Answer) : Type 0 where
+  pub synced : (n : ℕ) → e ≡ event.Save → a ≡ answer.Saved n → (j : ℕ) → j < servers → HasSynced kind t.before t.after j
+  pub out : a ≡ answer.FaultSave → SomeOut kind t servers
+
+-- What an event leaves alone of the stores that is not answered: each store of a server that is down; all syncs, but in a save; and each file, but the
+-- one to which its bytes were to go.
+pub record LeavesStores {S : Type 0} (kind : StoreKind S) (t : Span S) (old : CoreView) (e : Event) : Type 0 where
+  pub down : IsLeftDown t
+  pub syncs : SyncsNone kind t e
+  pub lists : Remembered
+  pub files : GrowsOnly kind t (line_asked kind t (lending old.settings old.lists lists) old.tables e)
+
 -- What a durable store does of an event that it answers: what its core promises of it, over the stores and the count of faults of the journal's
 -- disk.
 pub record DurableDoes {S D : Type 0} (stores : DiskKind S) (kind : DiskKind D) (old new : DurableScene S D) (e : Event) (a : Answer) : Type 0 where
@@ -68,23 +87,26 @@ pub record DurableDoes {S D : Type 0} (stores : DiskKind S) (kind : DiskKind D) 
   pub caused : IsCaused (synced_kind stores) (core_scene kind old) (core_scene kind new) e a
   pub told : GoesOnTold (synced_kind stores) (core_scene kind old) (core_scene kind new) e a
   pub punched : HasPunched (synced_kind stores) (core_scene kind old) (core_scene kind new) e a
+  pub leaves : LeavesAlone (synced_kind stores) (span_of (core_scene kind old) (core_scene kind new)) (lent_of old.durable.core new.durable.core)
+      old.durable.core.tables e
+  pub saves : SavesStores (synced_kind stores) (span_of (core_scene kind old) (core_scene kind new)) old.durable.core.settings.servers e a
 
--- The tree behind an event with this result: that of the machine with this answer, or, where it was not answered, with one that it may give.
-abbrev pub MayHave : {E : Type 0} → Machine → Event → Result Answer E → Tree → Type 0
-MayHave m e (Ok a) t = t ≡ (after m e a).now
-MayHave m e (Err why) t = (a : Answer) × May m e a × (t ≡ (after m e a).now)
+-- The machine behind an event with this result: with this answer, or, where it was not answered, with one that it may give.
+abbrev pub MayBecome : {E : Type 0} → Machine → Event → Result Answer E → Machine → Type 0
+MayBecome m e (Ok a) n = n ≡ after m e a
+MayBecome m e (Err why) n = (a : Answer) × May m e a × (n ≡ after m e a)
 
--- A stop at any moment of an event on a small tree leaves that tree, or the one behind it.
+-- A stop at any moment of an event on a small tree leaves a store to go on with, from the machine before it, or the one behind it.
 pub record Survives {S D E : Type 0} (stores : DiskKind S) (kind : DiskKind D) (old new : DurableScene S D) (e : Event) (r : Result Answer E)
     : Type 0 where
-  pub during : (m : Machine) → IsSmall m → StandsDurably stores kind old m → CoreHasRoom new.durable.core
-      → (left : Leftover) → StopIn stores kind old new left → (t : Tree) × ((t ≡ m.now) ⊎ MayHave m e r t) × LeavesTree left t
+  pub during : (m : Machine) → IsSmall m → StandsDurably stores kind old m → CoreHasRoom new.durable.core → (left : Leftover)
+      → StopIn stores kind old new left → (n : Machine) × ((n ≡ m) ⊎ MayBecome m e r n) × LeavesStore left n new.durable.core.tables.next_tx
   -- and so does one behind it, before any other call
-  pub behind : (m : Machine) → IsSmall m → StandsDurably stores kind old m → CoreHasRoom new.durable.core
-      → (left : Leftover) → StopNow stores kind new left → (t : Tree) × ((t ≡ m.now) ⊎ MayHave m e r t) × LeavesTree left t
+  pub behind : (m : Machine) → IsSmall m → StandsDurably stores kind old m → CoreHasRoom new.durable.core → (left : Leftover)
+      → StopNow stores kind new left → (n : Machine) × ((n ≡ m) ⊎ MayBecome m e r n) × LeavesStore left n new.durable.core.tables.next_tx
 
--- Behind an event on a small tree that was answered the store stands for the machine with that answer, and a stop leaves its tree.
+-- Behind an event on a small tree that was answered the store stands for the machine with that answer, and a stop leaves that to go on with.
 pub record Lasts {S D : Type 0} (stores : DiskKind S) (kind : DiskKind D) (old new : DurableScene S D) (e : Event) (a : Answer) : Type 0 where
   pub stands : (m : Machine) → IsSmall m → StandsDurably stores kind old m → CoreHasRoom new.durable.core → StandsDurably stores kind new (after m e a)
-  pub leaves : (m : Machine) → IsSmall m → StandsDurably stores kind old m → CoreHasRoom new.durable.core
-      → (left : Leftover) → StopNow stores kind new left → LeavesTree left (after m e a).now
+  pub leaves : (m : Machine) → IsSmall m → StandsDurably stores kind old m → CoreHasRoom new.durable.core → (left : Leftover)
+      → StopNow stores kind new left → LeavesStore left (after m e a) new.durable.core.tables.next_tx

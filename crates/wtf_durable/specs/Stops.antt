@@ -1,10 +1,13 @@
 -- A stop in a call: what it may leave of the devices, and which tree is found there.
-use Rattle.std.specs.Prelude.{◌⊎◌, ℕ, ◌<◌, nat_lt, if◌then◌else◌, List, length, None, slice_get, slice_index_or}
+use Rattle.std.specs.Prelude.{◌≡◌, ◌⊎◌, ℕ, ◌<◌, ◌≤◌, ◌^◌, ◌-◌, min, nat_lt, if◌then◌else◌, List, length, None, slice_get, slice_index_or}
 use Rattle.wtf_dev.specs.Disk.{DiskContent, DiskKind, MayLeave}
 use Rattle.wtf_journal.specs.Follows.{SyncedState}
 use Rattle.wtf_journal.specs.Held.{Held, IsTextOf, held_by}
 use Rattle.wtf_journal.specs.Scan.{JournalGives}
+use Rattle.wtf_image.specs.Loading.{AreSettingsOf, IsTaken}
+use Rattle.wtf_imagefmt.specs.Rows.{ImageRows}
 use Rattle.wtf_meta.specs.Contents.{Told}
+use Rattle.wtf_model.specs.Machines.{Machine}
 use Rattle.wtf_model.specs.Tree.{Tree}
 use Rattle.wtf_serve.specs.Openings.{StartsFrom}
 use Rattle.wtf_durable.specs.Views.{DurableScene}
@@ -61,3 +64,17 @@ pub record FindsTree (told : Told) (journal : List ℕ) (t : Tree) : Type 0 wher
 -- a stop left this tree
 abbrev pub LeavesTree : Leftover → Tree → Type 0
 LeavesTree left t = FindsTree (left_at left.stores) (left.journal 0) t
+
+-- how long stores show the files that were left
+abbrev pub left_size : (ℕ → DiskContent) → ℕ → ℕ → ℕ
+left_size stores k f = min (length (stores k f)) (2 ^ 61 - 1)
+
+-- A stop left a store that a run can go on with from this machine: its tree is found; and the image that the journal gives breaks no rule over the
+-- stores as they were left, has the settings and the number of installs, and begins with a transaction that is at most this.
+pub record LeavesStore (left : Leftover) (m : Machine) (next : ℕ) : Type 0 where
+  pub tree : LeavesTree left m.now
+  pub rows : ImageRows
+  pub taken : IsTaken (left_size left.stores) tree.image rows
+  pub settings : AreSettingsOf rows m.settings
+  pub number : rows.header.installs ≡ m.number
+  pub next_tx : rows.header.next_tx ≤ next

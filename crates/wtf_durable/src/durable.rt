@@ -2,7 +2,7 @@
 
 ghost use Rattle.std.specs.Prelude.{◌≡◌, ◌≢◌, ◌⊎◌, ◌<◌, ◌≤◌, ◌+◌, ◌^◌, ℕ, [], length, true, false, None, Some, Ok, Err, IfOk, IfErr, IsErr, IsOk, IsSome, OnOk, OnErr, IsErrOf};
 ghost use Rattle.wtf_dev.specs.Counts.{Rose};
-ghost use Rattle.wtf_dev.specs.Disk.{DiskGoesOn};
+ghost use Rattle.wtf_dev.specs.Disk.{DiskGoesOn, SameElsewhere};
 ghost use Rattle.wtf_dev.specs.Each.{EachFollows};
 ghost use Rattle.wtf_journal.specs.Follows.{synced_kind};
 ghost use Rattle.wtf_journal.specs.Held.{held_by};
@@ -11,7 +11,8 @@ ghost use Rattle.wtf_model.specs.Form.{IsFormEvent};
 ghost use Rattle.wtf_core.specs.Named.{IsInside};
 ghost use Rattle.wtf_core.specs.Promises.{Watches};
 ghost use Rattle.wtf_replica.specs.Downs.{is_down};
-ghost use Rattle.wtf_replica.specs.Outs.{HasRisen};
+ghost use Rattle.wtf_replica.specs.Outs.{HasRisen, SameLengths};
+ghost use Rattle.wtf_replica.specs.Spans.{span};
 ghost use Rattle.wtf_model.specs.declared.answer.Answer.{Answer};
 ghost use Rattle.wtf_model.specs.declared.answer.Answer.TheVariants as answer;
 ghost use Rattle.wtf_durable.specs.declared.fault.Unopened.TheVariants as unopened;
@@ -19,7 +20,7 @@ ghost use Rattle.wtf_durable.specs.declared.fault.DurableFault.TheVariants as fa
 ghost use Rattle.wtf_durable.specs.Found.{IsBegun};
 ghost use Rattle.wtf_durable.specs.Handled.{Handled, HandlesNot, HandsImages, Noted, Notes};
 ghost use Rattle.wtf_durable.specs.Opened.{OpeningSurvives, OpensDurable, UnopenedFor};
-ghost use Rattle.wtf_durable.specs.Promises.{DurableDoes, Lasts, Survives};
+ghost use Rattle.wtf_durable.specs.Promises.{DurableDoes, Lasts, LeavesStores, Survives};
 ghost use Rattle.wtf_durable.specs.Sound.{IsSoundDurable};
 ghost use Rattle.wtf_durable.specs.Stops.{Leftover, StoresLeft};
 ghost use Rattle.wtf_durable.specs.Views.{durable_scene, ReachesGate};
@@ -56,8 +57,9 @@ impl Model for Durable {
 
 impl Durable {
     /// Opens the journal on a disk, over stores that have the bytes which its image names. A journal without a record begins with these
-    /// settings, and the image of the root alone is saved to it at once. A stop at any moment leaves a journal that stands for what it could
-    /// stand for before.
+    /// settings, and the image of the root alone is saved to it at once. No file of a store grows. A stop at any moment leaves a journal that
+    /// stands for what it could stand for before, and for nothing else, or that has this image in the place of no record. One that stands
+    /// for nothing keeps its bytes.
     pub fn open<S: Disk, D: Disk>(
         alloc: Global,
         settings: Settings,
@@ -73,9 +75,12 @@ impl Durable {
         ensures any_moment { (D.kind.view disk.old).tells ≡ true → (left : Leftover) →
             StoresLeft S.kind shelf.old shelf.new left.stores →
             D.kind.left_since disk.new (D.kind.view disk.old).moment left.journal →
-            OpeningSurvives S.kind D.kind shelf.old disk.old left }
+            OpeningSurvives S.kind D.kind settings shelf.old disk.old left }
         ensures follows { EachFollows (synced_kind S.kind) shelf.old shelf.new [] }
+        ensures lengths { SameLengths (synced_kind S.kind) shelf.old shelf.new }
         ensures goes_on { DiskGoesOn D.kind disk.old disk.new }
+        ensures elsewhere { (D.kind.view disk.old).tells ≡ true →
+            SameElsewhere 0 (D.kind.view disk.old) (D.kind.view disk.new) }
     {
         let found = match found(alloc, settings, shelf, disk) {
             Ok(found) => found,
@@ -114,6 +119,8 @@ impl Durable {
         ensures hands { HandsImages D.kind disk.old disk.new self.old.journal.end self.old.core }
         ensures fresh { fresh ≡ false → disk.new ≡ disk.old }
         ensures follows { EachFollows (synced_kind S.kind) shelf.old shelf.new [] }
+        ensures lengths { SameLengths (synced_kind S.kind) shelf.old shelf.new }
+        ensures saving { IsErr result → fresh ≡ true }
         ensures cause { IsErrOf result unopened.Save →
             ((k : ℕ) × HasRisen (synced_kind S.kind) shelf.old shelf.new k) ⊎
             Rose (D.kind.view disk.old).faults (D.kind.view disk.new).faults }
@@ -167,8 +174,8 @@ impl Durable {
     }
 
     /// Answers one line as the core does, and then adds to the journal what was installed: at `Ok` it outlives every later stop. A stop at any
-    /// moment of the call leaves the tree before the line, or the one behind it, with the bytes that it names. After a fault no other event
-    /// follows: the journal is opened again.
+    /// moment of the call leaves a store that can be opened again, with the tree before the line, or the one behind it, and the bytes that it
+    /// names. After a fault no other event follows: the journal is opened again.
     pub fn event<S: Disk, D: Disk>(
         &mut self,
         shelf: &mut Shelf<Synced<S>>,
@@ -193,7 +200,11 @@ impl Durable {
             ((self.new.core.tables.kv.number ≤ self.old.core.tables.kv.number + 1) ×
             (self.new.core.tables.next_tx ≤ self.old.core.tables.next_tx + 1)) }
         ensures follows { OnErr result (EachFollows (synced_kind S.kind) shelf.old shelf.new []) }
+        ensures leaves { OnErr result (LeavesStores (synced_kind S.kind)
+            (span (is_down self.old.core.replicas) shelf.old shelf.new) self.old.core event.now) }
         ensures goes_on { DiskGoesOn D.kind disk.old disk.new }
+        ensures elsewhere { (D.kind.view disk.old).tells ≡ true →
+            SameElsewhere 0 (D.kind.view disk.old) (D.kind.view disk.new) }
         ensures cause { IsErrOf result fault.Journal →
             Rose (D.kind.view disk.old).faults (D.kind.view disk.new).faults }
     {
@@ -224,7 +235,7 @@ impl Durable {
             event.now) }
         ensures lost { OnErr result (HandlesNot S.kind D.kind
             (durable_scene shelf.old disk.old self.old)
-            (durable_scene shelf.new disk.new self.new)) }
+            (durable_scene shelf.new disk.new self.new) event.now) }
         ensures goes_on { DiskGoesOn D.kind disk.old disk.new }
         ensures cause { IsErrOf result fault.Journal →
             Rose (D.kind.view disk.old).faults (D.kind.view disk.new).faults }

@@ -1,7 +1,7 @@
 //! What the journal on a disk opens: a core with the settings of its image, or with those that are asked for.
 
 ghost use Rattle.std.specs.Prelude.{◌≡◌, ℕ, true, None, IfOk, IfErr, OnOk};
-ghost use Rattle.wtf_dev.specs.Disk.{DiskGoesOn, DiskLeaves};
+ghost use Rattle.wtf_dev.specs.Disk.{DiskGoesOn, DiskLeaves, SameElsewhere};
 ghost use Rattle.wtf_journal.specs.Held.{held_by};
 ghost use Rattle.wtf_journal.specs.Scan.{IsBadAt, KeepsMeaning};
 ghost use Rattle.wtf_durable.specs.Found.{IsFoundBy, unopened_by};
@@ -40,6 +40,8 @@ pub(crate) fn found<S: Disk, D: Disk>(
     ensures any_moment { (D.kind.view disk.old).tells ≡ true → DiskLeaves D.kind disk.old disk.new
         (KeepsMeaning held_by None (D.kind.view disk.old)) }
     ensures goes_on { DiskGoesOn D.kind disk.old disk.new }
+    ensures elsewhere { (D.kind.view disk.old).tells ≡ true →
+        SameElsewhere 0 (D.kind.view disk.old) (D.kind.view disk.new) }
 {
     let opened = match Journal::open(alloc, disk) {
         Ok(opened) => opened,

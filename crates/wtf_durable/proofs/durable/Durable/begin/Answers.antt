@@ -1,7 +1,7 @@
 use Rattle.std.proofs.Common.{rules, ◌≡◌, true, OnOk, refl, sym, ap, ◌∙◌, subst}
 use Rattle.wtf_durable.specs.Found.{IsBegun}
 use Rattle.wtf_durable.specs.Views.{DurableView, durable_scene}
-use Rattle.wtf_durable.proofs.Beginning.{begin_cause, begin_hands, begun_by}
+use Rattle.wtf_durable.proofs.Beginning.{begin_cause, begin_hands, begun_by, save_lengths}
 use Rattle.wtf_durable.proofs.Judging.{handed_by}
 use Rattle.wtf_durable.proofs.durable.Durable.begin.Goals as goal
 
@@ -14,7 +14,7 @@ returns-clause-begun g c =
     (durable_scene c.save-saved.new.shelf c.disk-1.given.0 (record { core = c.save-saved.new.self; journal = c.save-saved.new.keeper.journal.now })))) is
     (begun_by g.S.Disk.kind g.D.Disk.kind _ c.save-saved.new.keeper c.args.shelf.now c.save-saved.new.shelf c.self.inside.core
     c.save-saved.new.self c.save-saved.result c.save-saved.ensures.does c.save-saved.ensures.fails
-    c.save-saved.ensures.stays.core refl (ap (λ (d : DurableView). d.journal.failed) c.self.view_is ∙ c.requires.whole) c.disk-1.given.0
+    c.save-saved.ensures.stays refl (ap (λ (d : DurableView). d.journal.failed) c.self.view_is ∙ c.requires.whole) c.disk-1.given.0
     (c.disk-1.given.1 (sym handed.follows.disk)) c.args.self.now c.self.view_is c.judged.result c.failed.result c.failed.ensures
     c.judged.ensures.answered c.first_saved.result c.requires.reach c.first_saved.ensures.saved)
 
@@ -24,7 +24,7 @@ returns-clause-hands g c =
     c.save-saved.new.self _ c.save-saved.result c.save-saved.ensures.does c.save-saved.ensures.fails in
     begin_hands g.S.Disk.kind g.D.Disk.kind _ c.save-saved.new.keeper c.args.shelf.now c.save-saved.new.shelf c.self.inside.core
     c.save-saved.new.self c.save-saved.result c.save-saved.ensures.does c.save-saved.ensures.fails
-    c.save-saved.ensures.stays.core refl (ap (λ (d : DurableView). d.journal.failed) c.self.view_is ∙ c.requires.whole) c.disk-1.given.0
+    c.save-saved.ensures.stays refl (ap (λ (d : DurableView). d.journal.failed) c.self.view_is ∙ c.requires.whole) c.disk-1.given.0
     (c.disk-1.given.1 (sym handed.follows.disk)) c.args.self.now c.self.view_is
 
 pub returns-clause-cause : goal.returns-clause-cause
@@ -34,6 +34,14 @@ returns-clause-cause g c =
     c.save-saved.new.self _ c.save-saved.result c.save-saved.ensures.does c.save-saved.ensures.fails in
     begin_cause g.S.Disk.kind g.D.Disk.kind _ c.save-saved.new.keeper c.args.shelf.now c.save-saved.new.shelf c.self.inside.core
     c.save-saved.new.self c.save-saved.result c.save-saved.ensures.does c.save-saved.ensures.fails
-    c.save-saved.ensures.stays.core refl (ap (λ (d : DurableView). d.journal.failed) c.self.view_is ∙ c.requires.whole) c.disk-1.given.0
+    c.save-saved.ensures.stays refl (ap (λ (d : DurableView). d.journal.failed) c.self.view_is ∙ c.requires.whole) c.disk-1.given.0
     (c.disk-1.given.1 (sym handed.follows.disk)) c.args.self.now c.self.view_is c.judged.result c.failed.result c.failed.ensures
     c.judged.ensures.answered c.requires.up c.judged.ensures.journal (c.first_saved.ensures.other failed)
+
+pub returns-clause-lengths : goal.returns-clause-lengths
+returns-clause-lengths g c = save_lengths _ _ _ _ c.save-saved.ensures.stays.leaves
+
+pub returns-clause-saving : goal.returns-clause-saving
+returns-clause-saving g c =
+    λ err.
+    let is : true ≡ c.args.fresh = search rules in sym is

@@ -3,7 +3,7 @@ use Rattle.std.specs.Prelude.{IsOk, IsSome}
 use Rattle.wtf_journal.specs.Moments.{goes_on_on}
 use Rattle.wtf_durable.specs.declared.fault.DurableFault.TheVariants as fault
 use Rattle.wtf_durable.specs.Views.{durable_scene}
-use Rattle.wtf_durable.proofs.Answering.{cut_follows, durable_does, rose_later, same_fault, watched_then}
+use Rattle.wtf_durable.proofs.Answering.{cut_follows, durable_does, rose_later, same_fault, stores_left, watched_then}
 use Rattle.wtf_durable.proofs.Lasting.{handled_lasts}
 use Rattle.wtf_durable.proofs.Stopping.{cut_survives, handled_survives, unhandled_survives}
 use Rattle.wtf_durable.proofs.durable.Durable.event.Goals as goal
@@ -62,6 +62,12 @@ returns-in-Err-noted-clause-follows g c =
     (durable_scene c.handled.new.shelf c.handled.new.disk c.handled.new.self) c.args.event.now c.in-Ok.answer c.requires.sound c.in-Ok.ensures.handled
     (λ watched. let ok = subst (λ r. IsOk r) c.in-Err-noted.is (c.noted.ensures.sure watched) in absurd (cc))
 
+pub returns-in-Err-clause-leaves : goal.returns-in-Err-clause-leaves
+returns-in-Err-clause-leaves g c = stores_left _ _ c.args.self.now.core c.handled.new.self.core c.args.event.now c.in-Err.ensures.lost.leaves
+
+pub returns-in-Err-noted-clause-leaves : goal.returns-in-Err-noted-clause-leaves
+returns-in-Err-noted-clause-leaves g c = stores_left _ _ c.args.self.now.core c.handled.new.self.core c.args.event.now c.in-Ok.ensures.handled.leaves
+
 pub returns-in-Err-noted-clause-goes_on : goal.returns-in-Err-noted-clause-goes_on
 returns-in-Err-noted-clause-goes_on g c =
     goes_on_on g.D.Disk.kind c.args.disk.now c.handled.new.disk c.noted.new.disk c.handled.ensures.goes_on c.noted.ensures.goes_on
@@ -72,3 +78,14 @@ returns-in-Err-noted-clause-cause g c =
     rose_later (g.D.Disk.kind.view c.args.disk.now).faults (g.D.Disk.kind.view c.handled.new.disk).faults (g.D.Disk.kind.view c.noted.new.disk).faults
     c.handled.ensures.goes_on.faults
     (c.noted.ensures.cause (c.in-Err-noted.is ∙ same_fault c.in-Err-noted.why fault.Journal failed))
+
+pub returns-in-Err-clause-elsewhere : goal.returns-in-Err-clause-elsewhere
+returns-in-Err-clause-elsewhere g c = c.in-Err.ensures.lost.hands.elsewhere
+
+pub returns-in-Ok-noted-clause-elsewhere : goal.returns-in-Ok-noted-clause-elsewhere
+returns-in-Ok-noted-clause-elsewhere g c = λ tells f ne.
+    c.in-Ok-noted.ensures.noted.notes.elsewhere (c.handled.ensures.goes_on.tells ∙ tells) f ne ∙ c.in-Ok.ensures.handled.hands.elsewhere tells f ne
+
+pub returns-in-Err-noted-clause-elsewhere : goal.returns-in-Err-noted-clause-elsewhere
+returns-in-Err-noted-clause-elsewhere g c = λ tells f ne.
+    c.in-Err-noted.ensures.cut.elsewhere (c.handled.ensures.goes_on.tells ∙ tells) f ne ∙ c.in-Ok.ensures.handled.hands.elsewhere tells f ne

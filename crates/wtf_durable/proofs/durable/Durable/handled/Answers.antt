@@ -20,7 +20,7 @@ returns-clause-handled g c =
     c.event-answered.new.self c.args.event.now c.event-answered.result c.event-answered.ensures.does c.event-answered.ensures.fails in
     handled_result g.S.Disk.kind g.D.Disk.kind _ c.event-answered.new.keeper c.args.shelf.now c.event-answered.new.shelf c.self.inside.core
     c.event-answered.new.self c.args.event.now c.event-answered.result c.event-answered.ensures.does c.event-answered.ensures.fails
-    c.event-answered.ensures.stays.core refl (ap (λ (d : DurableView). d.journal.failed) c.self.view_is ∙ c.requires.sound.whole) c.disk-1.given.0
+    c.event-answered.ensures.stays refl (ap (λ (d : DurableView). d.journal.failed) c.self.view_is ∙ c.requires.sound.whole) c.disk-1.given.0
     (c.disk-1.given.1 (sym handed.follows.disk)) c.args.self.now c.self.view_is c.judged.result c.failed.result c.failed.ensures c.requires.reach
     c.judged.ensures.answered
 
@@ -30,7 +30,7 @@ returns-clause-lost g c =
     c.event-answered.new.self c.args.event.now c.event-answered.result c.event-answered.ensures.does c.event-answered.ensures.fails in
     lost_result g.S.Disk.kind g.D.Disk.kind _ c.event-answered.new.keeper c.args.shelf.now c.event-answered.new.shelf c.self.inside.core
     c.event-answered.new.self c.args.event.now c.event-answered.result c.event-answered.ensures.does c.event-answered.ensures.fails
-    c.event-answered.ensures.stays.core refl (ap (λ (d : DurableView). d.journal.failed) c.self.view_is ∙ c.requires.sound.whole) c.disk-1.given.0
+    c.event-answered.ensures.stays refl (ap (λ (d : DurableView). d.journal.failed) c.self.view_is ∙ c.requires.sound.whole) c.disk-1.given.0
     (c.disk-1.given.1 (sym handed.follows.disk)) c.args.self.now c.self.view_is c.judged.result c.failed.result c.failed.ensures c.judged.ensures.flagged
 
 pub returns-clause-goes_on : goal.returns-clause-goes_on
@@ -39,7 +39,7 @@ returns-clause-goes_on g c =
     c.event-answered.new.self c.args.event.now c.event-answered.result c.event-answered.ensures.does c.event-answered.ensures.fails in
     goes_by g.S.Disk.kind g.D.Disk.kind _ c.event-answered.new.keeper c.args.shelf.now c.event-answered.new.shelf c.self.inside.core
     c.event-answered.new.self c.args.event.now c.event-answered.result c.event-answered.ensures.does c.event-answered.ensures.fails
-    c.event-answered.ensures.stays.core refl (ap (λ (d : DurableView). d.journal.failed) c.self.view_is ∙ c.requires.sound.whole) c.disk-1.given.0
+    c.event-answered.ensures.stays refl (ap (λ (d : DurableView). d.journal.failed) c.self.view_is ∙ c.requires.sound.whole) c.disk-1.given.0
     (c.disk-1.given.1 (sym handed.follows.disk)) c.args.self.now c.self.view_is
 
 pub returns-clause-cause : goal.returns-clause-cause
@@ -49,6 +49,6 @@ returns-clause-cause g c =
     c.event-answered.new.self c.args.event.now c.event-answered.result c.event-answered.ensures.does c.event-answered.ensures.fails in
     cause_result g.S.Disk.kind g.D.Disk.kind _ c.event-answered.new.keeper c.args.shelf.now c.event-answered.new.shelf c.self.inside.core
     c.event-answered.new.self c.args.event.now c.event-answered.result c.event-answered.ensures.does c.event-answered.ensures.fails
-    c.event-answered.ensures.stays.core refl (ap (λ (d : DurableView). d.journal.failed) c.self.view_is ∙ c.requires.sound.whole) c.disk-1.given.0
+    c.event-answered.ensures.stays refl (ap (λ (d : DurableView). d.journal.failed) c.self.view_is ∙ c.requires.sound.whole) c.disk-1.given.0
     (c.disk-1.given.1 (sym handed.follows.disk)) c.args.self.now c.self.view_is c.judged.result c.failed.result c.failed.ensures
     (c.judged.ensures.journal failed)

@@ -31,7 +31,7 @@ returns-in-Ok-append-clause-noted g c =
     subst (λ (v : DurableView). Noted g.D.Disk.kind c.args.disk.now c.append.new.disk v (record { core = c.record.new.self; journal = c.append.new.self }))
     c.self.view_is
     (noted_added g.D.Disk.kind c.args.disk.now c.append.new.disk old c.record.new.self c.deref.result.now is c.append.ensures.goes_on
-    c.append.ensures.any_moment c.append.new.self c.in-Ok-append.ensures.acknowledged
+    c.append.ensures.elsewhere c.append.ensures.any_moment c.append.new.self c.in-Ok-append.ensures.acknowledged
     (ap (λ (j : JournalView). j.failed) c.in-Ok-append.ensures.added) c.in-Ok-append.ensures.reach)
 
 pub returns-in-Err-Failed-clause-cut : goal.returns-in-Err-Failed-clause-cut
@@ -41,7 +41,7 @@ returns-in-Err-Failed-clause-cut g c =
     let is = subst (λ (l : List ℕ). IsRecordOf c.self.inside.core c.record.new.self l) (sym c.deref.ensures.value) some in
     subst (λ (v : DurableView). Notes g.D.Disk.kind c.args.disk.now c.append.new.disk v.journal.end v.core c.record.new.self) c.self.view_is
     (notes_added g.D.Disk.kind c.args.disk.now c.append.new.disk old c.record.new.self c.deref.result.now is c.append.ensures.goes_on
-    c.append.ensures.any_moment)
+    c.append.ensures.elsewhere c.append.ensures.any_moment)
 
 pub returns-in-Err-append-clause-cut : goal.returns-in-Err-append-clause-cut
 returns-in-Err-append-clause-cut g c =
@@ -50,4 +50,4 @@ returns-in-Err-append-clause-cut g c =
     let is = subst (λ (l : List ℕ). IsRecordOf c.self.inside.core c.record.new.self l) (sym c.deref.ensures.value) some in
     subst (λ (v : DurableView). Notes g.D.Disk.kind c.args.disk.now c.append.new.disk v.journal.end v.core c.record.new.self) c.self.view_is
     (notes_added g.D.Disk.kind c.args.disk.now c.append.new.disk old c.record.new.self c.deref.result.now is c.append.ensures.goes_on
-    c.append.ensures.any_moment)
+    c.append.ensures.elsewhere c.append.ensures.any_moment)

@@ -1,9 +1,9 @@
-use Rattle.std.proofs.Common.{ℕ, Bool, Err, inl, inr, ⊎_elim, sym, ap, ◌∙◌, subst}
+use Rattle.std.proofs.Common.{is_err, ℕ, Bool, Err, inl, inr, ⊎_elim, sym, ap, ◌∙◌, subst}
 use Rattle.wtf_journal.specs.Moments.{goes_on_on}
 use Rattle.wtf_durable.specs.declared.fault.Unopened.{Unopened}
 use Rattle.wtf_durable.specs.Opened.{UnopenedFor}
 use Rattle.wtf_durable.proofs.Answering.{rose_later}
-use Rattle.wtf_durable.proofs.OpenStops.{found_survives, opens_durable, unfound_survives}
+use Rattle.wtf_durable.proofs.OpenStops.{found_survives, none_given, opens_durable, unfound_survives}
 use Rattle.wtf_durable.proofs.durable.Durable.open.Goals as goal
 
 pub begin-requires-clause-up : goal.begin-requires-clause-up
@@ -13,8 +13,8 @@ begin-requires-clause-up g c =
 pub returns-in-Err-clause-any_moment : goal.returns-in-Err-clause-any_moment
 returns-in-Err-clause-any_moment g c =
     λ tells left stopped late.
-    unfound_survives g.S.Disk.kind g.D.Disk.kind g.met.S.Disk.laws g.met.D.Disk.laws c.args.shelf.now c.args.disk.now c.found.new.disk
-    tells (c.found.ensures.any_moment tells) left stopped late
+    unfound_survives g.S.Disk.kind g.D.Disk.kind g.met.S.Disk.laws g.met.D.Disk.laws c.args.settings c.args.shelf.now c.args.disk.now
+    c.found.new.disk tells (c.found.ensures.any_moment tells) left stopped late
 
 pub returns-in-Err-begin-clause-any_moment : goal.returns-in-Err-begin-clause-any_moment
 returns-in-Err-begin-clause-any_moment g c =
@@ -57,7 +57,7 @@ returns-in-Ok-watch-clause-opened g c =
     opens_durable g.S.Disk.kind g.D.Disk.kind g.met.S.Disk.laws g.met.D.Disk.laws c.args.settings c.args.shelf.now c.begin.new.shelf c.args.disk.now
     c.found.new.disk c.begin.new.disk (record { core = c.in-Ok.found.core; journal = c.in-Ok.found.journal }) c.begin.new.self
     c.in-Ok.found.fresh c.in-Ok.ensures.found c.found.ensures.goes_on c.begin.ensures.hands
-    c.in-Ok-begin.ensures.begun c.watch.new.self c.in-Ok-watch.ensures.watches c.watch.ensures.journal
+    c.begin.ensures.follows c.in-Ok-begin.ensures.begun c.watch.new.self c.in-Ok-watch.ensures.watches c.watch.ensures.journal
 
 pub returns-in-Err-begin-clause-unopened : goal.returns-in-Err-begin-clause-unopened
 returns-in-Err-begin-clause-unopened g c =
@@ -66,12 +66,17 @@ returns-in-Err-begin-clause-unopened g c =
     subst
     (λ (w : Unopened). UnopenedFor g.S.Disk.kind g.D.Disk.kind c.args.settings c.args.shelf.now c.begin.new.shelf c.args.disk.now c.begin.new.disk w)
     (sym save)
-    (⊎_elim
-    (λ store. inl store)
-    (λ disk.
-    inr (rose_later (g.D.Disk.kind.view c.args.disk.now).faults (g.D.Disk.kind.view c.found.new.disk).faults (g.D.Disk.kind.view c.begin.new.disk).faults
-    c.found.ensures.goes_on.faults disk))
-    (c.begin.ensures.cause (c.in-Err-begin.is ∙ ap (λ (w : Unopened). Err w) save))))
+    (record {
+      empty = none_given g.S.Disk.kind g.D.Disk.kind c.args.settings c.args.shelf.now (c.args.disk.now, c.found.new.disk)
+          (record { core = c.in-Ok.found.core; journal = c.in-Ok.found.journal }) c.in-Ok.found.fresh c.in-Ok.ensures.found
+          (c.begin.ensures.saving (ap (λ r. is_err r) c.in-Err-begin.is));
+      cause = ⊎_elim
+          (λ store. inl store)
+          (λ disk.
+          inr (rose_later (g.D.Disk.kind.view c.args.disk.now).faults (g.D.Disk.kind.view c.found.new.disk).faults (g.D.Disk.kind.view c.begin.new.disk).faults
+          c.found.ensures.goes_on.faults disk))
+          (c.begin.ensures.cause (c.in-Err-begin.is ∙ ap (λ (w : Unopened). Err w) save));
+    }))
     (λ memory.
     subst
     (λ (w : Unopened). UnopenedFor g.S.Disk.kind g.D.Disk.kind c.args.settings c.args.shelf.now c.begin.new.shelf c.args.disk.now c.begin.new.disk w)
@@ -83,3 +88,15 @@ returns-in-Err-watch-clause-unopened g c =
     subst
     (λ (w : Unopened). UnopenedFor g.S.Disk.kind g.D.Disk.kind c.args.settings c.args.shelf.now c.begin.new.shelf c.args.disk.now c.begin.new.disk w)
     (sym c.in-Err-watch.ensures.only) tt
+
+pub returns-in-Err-begin-clause-elsewhere : goal.returns-in-Err-begin-clause-elsewhere
+returns-in-Err-begin-clause-elsewhere g c = λ tells f ne.
+    c.begin.ensures.hands.elsewhere (c.found.ensures.goes_on.tells ∙ tells) f ne ∙ c.found.ensures.elsewhere tells f ne
+
+pub returns-in-Ok-watch-clause-elsewhere : goal.returns-in-Ok-watch-clause-elsewhere
+returns-in-Ok-watch-clause-elsewhere g c = λ tells f ne.
+    c.begin.ensures.hands.elsewhere (c.found.ensures.goes_on.tells ∙ tells) f ne ∙ c.found.ensures.elsewhere tells f ne
+
+pub returns-in-Err-watch-clause-elsewhere : goal.returns-in-Err-watch-clause-elsewhere
+returns-in-Err-watch-clause-elsewhere g c = λ tells f ne.
+    c.begin.ensures.hands.elsewhere (c.found.ensures.goes_on.tells ∙ tells) f ne ∙ c.found.ensures.elsewhere tells f ne
