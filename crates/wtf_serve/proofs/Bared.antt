@@ -7,11 +7,13 @@ use Rattle.wtf_dev.specs.Streams.{SourceView, SinkView}
 use Rattle.wtf_model.specs.declared.answer.Answer.{Answer}
 use Rattle.wtf_image.specs.declared.error.LoadError.{LoadError}
 use Rattle.wtf_serve.specs.Endings.{Devices, IsServedStatus, IsUnstarted, Served}
-use Rattle.wtf_serve.specs.Logs.{output}
+use Rattle.wtf_serve.specs.Logs.{Log, output}
 use Rattle.wtf_serve.specs.Openings.{Opening}
+use Rattle.wtf_serve.specs.Spared.{RunSpares}
 use Rattle.wtf_serve.specs.Stocks.{Stock}
 use Rattle.wtf_serve.specs.Traces.{HasWritten}
 use Rattle.wtf_serve.specs.Unopened.{IsRunWith, IsWhy, Refuses, refusal_line}
+use Rattle.wtf_serve.proofs.Serving.{opened_by}
 use Rattle.wtf_serve.proofs.Telling.{some_same}
 
 abbrev pub sink_at : ℕ → Option (List ℕ) → SinkView
@@ -226,13 +228,37 @@ bare_served kind handed opening status source source' stock stock' g f p taken' 
       },
     )
 
+-- ---- what its lines left alone
+bare_spares : {S : Type 0} (kind : StoreKind S) (handed : List (List ℕ) → Type 0) (status : ℕ) (log : Log) (mid : List S) (source source' : SourceView)
+    (stock stock' : Stock S) (g f : ℕ) (p text : List ℕ) (taken' : Option (List ℕ))
+    → RunSpares kind handed status log mid (at source g (Some p) stock) (at source' f taken' stock')
+    → RunSpares kind handed status log mid (at source g (Some []) stock) (at source' f (Some text) stock')
+bare_spares kind handed status log mid source source' stock stock' g f p text taken' s = record {
+  along = s.along;
+  down = s.down;
+  images = s.images;
+  last = s.last;
+  handed_are = s.handed_are;
+  each = s.each;
+  saved = s.saved;
+  failed = s.failed;
+  early = s.early;
+  memory = s.memory;
+}
+
 pub bare_run : {S : Type 0} (kind : StoreKind S) (handed : List (List ℕ) → Type 0) (settings : Settings) (status : ℕ) (source source' : SourceView)
     (stock stock' : Stock S) (g f : ℕ) (p : List ℕ) (taken' : Option (List ℕ))
     → IsRunWith kind handed settings status (at source g (Some p) stock) (at source' f taken' stock')
     → (text : List ℕ) × (taken' ≡ Some (p ++ text)) × IsRunWith kind handed settings status (at source g (Some []) stock) (at source' f (Some text) stock')
+unfolding bare_served
 bare_run kind handed settings status source source' stock stock' g f p taken' (inl u) =
     let w = bare_why kind status source source' stock stock' g f p taken' u.why in
     (w.0, w.1, inl (record { why = w.2; source_is = u.source_is; shelf_is = u.shelf_is; kept = u.kept }))
 bare_run kind handed settings status source source' stock stock' g f p taken' (inr o) =
-    let w = bare_served kind handed o.opening status source source' stock stock' g f p taken' o.served in
-    (w.0, w.1, inr (record { opening = o.opening; opens = o.opens; given = o.given; served = w.2 }))
+    let w = bare_served kind handed o.opening status source source' stock stock' g f p taken' o.served in (
+      w.0,
+      w.1,
+      inr (opened_by kind handed settings o.opening (at source g (Some []) stock) (at source' f (Some w.0) stock') o.opens o.given o.served.log o.served.mid
+          status (w.2, refl, refl)
+          (bare_spares kind handed status o.served.log o.served.mid.shelf source source' stock stock' g f p w.0 taken' o.spares)),
+    )

@@ -141,6 +141,10 @@ module _ {S State : Type 0} (engine : Engine S State) (laws : KindLaws engine.ki
       (is.lawful named m (small_now engine laws opening start now next bad g (all_told start.stock.shelf) t (starts_wide t from)) stands).stands
       ((is.told named m stands).within ((g.so_far.told tells).within_from t from)) (is.goes_on.kept (g.keeper.tells ∙ telling.tells) (g.kept telling)) held)
 
+  -- it is served, with these lines, and this stock when the last of them was answered
+  abbrev ServedBy : Log → Stock S → ℕ → Devices S → Type 0
+  ServedBy log mid status new = (served : Served engine.kind handed opening status start new) × (served.log ≡ log) × (served.mid ≡ mid)
+
   -- the run ends without a further line
   finish : (status : ℕ) (sink' : SinkView) (final : Stock S) (result : Result (Option Bool) Stop) → PassIs engine now next result
       → (rest : List (ℕ × Range)) → (status ≢ 7 → rest ≡ []) → (rest ≡ []) ⊎ IsOfCollect start.source.rest g.log.lines rest
@@ -360,14 +364,16 @@ module _ {S State : Type 0} (engine : Engine S State) (laws : KindLaws engine.ki
     blind_log blind same = refl
 
     closed : (status : ℕ) → Closes engine t bad status
-        → Served engine.kind handed opening status start (record { source = next.input.source; sink = sink'; stock = final })
-    closed status (inl (n, is_end, is)) = finish_saved status n is_end (subst (λ (x : ℕ). IsEndStatus x) (sym is_end) (ends_as bad)) is
+        → ServedBy g.log now.stock status (record { source = next.input.source; sink = sink'; stock = final })
+    unfolding finish_saved finish_failed finish_short finish
+    closed status (inl (n, is_end, is)) =
+        (finish_saved status n is_end (subst (λ (x : ℕ). IsEndStatus x) (sym is_end) (ends_as bad)) is, refl, refl)
     closed status (inr (inl (is_5, is))) =
-        subst (λ (x : ℕ). Served engine.kind handed opening x start (record { source = next.input.source; sink = sink'; stock = final })) (sym is_5)
-        (finish_failed is)
+        subst (λ (x : ℕ). ServedBy g.log now.stock x (record { source = next.input.source; sink = sink'; stock = final })) (sym is_5)
+        (finish_failed is, refl, refl)
     closed status (inr (inr (is_7, same))) =
-        subst (λ (x : ℕ). Served engine.kind handed opening x start (record { source = next.input.source; sink = sink'; stock = final })) (sym is_7)
-        (finish_short same)
+        subst (λ (x : ℕ). ServedBy g.log now.stock x (record { source = next.input.source; sink = sink'; stock = final })) (sym is_7)
+        (finish_short same, refl, refl)
 
   -- ---- an end before the end of the script
 
@@ -439,11 +445,18 @@ module _ {S State : Type 0} (engine : Engine S State) (laws : KindLaws engine.ki
       (never 4 9 (λ e. omega (arith, e)) next.input.held.count (pass.limit (λ e. cc))) (inr (inr (inr (inl refl)))) (λ ends. absurd (omega (arith, ends)))
       (λ e. absurd (omega (arith, e))) (λ e. absurd (omega (arith, e))) (early_left 4 quiet.stock (inr (inr (inl refl))))
 
+  held_by : (sink' : SinkView) → PassIs engine now next (Ok None)
+      → ((bytes : List ℕ) → next.sink.taken ≡ Some bytes → sink'.taken ≡ Some bytes) → next.sink.faults ≤ sink'.faults
+      → Rose next.sink.faults sink'.faults
+      → ServedBy g.log now.stock 4 (record { source = next.input.source; sink = sink'; stock = next.stock })
+  unfolding finish_held finish
+  held_by sink' pass taken rises rose = (finish_held sink' pass taken rises rose, refl, refl)
+
   -- a pass came to the end of the script: what follows begins with what the pass left, which is what it was
   pub finish_end : (status : ℕ) (sink' : SinkView) (final : Stock S) (state' : State) → PassIs engine now next (Ok None)
       → EachFollows engine.kind next.stock.shelf final.shelf [] → KeeperGoesOn next.stock.keeper final.keeper
       → Ends engine (step next.stock final next.state state') next.sink sink' bad status
-      → Served engine.kind handed opening status start (record { source = next.input.source; sink = sink'; stock = final })
+      → ServedBy g.log now.stock status (record { source = next.input.source; sink = sink'; stock = final })
   finish_end status sink' final state' came follows keeper end =
       let quiet = came.came.1 in
       elim end.ends [
@@ -454,13 +467,13 @@ module _ {S State : Type 0} (engine : Engine S State) (laws : KindLaws engine.ki
             (subst (λ (s : Stock S). Closes engine (step s final now.state state') bad status) quiet.stock
             (subst (λ (x : State). Closes engine (step next.stock final x state') bad status) quiet.state saved.1))
         | inr held ↦
-            subst (λ (n : ℕ). Served engine.kind handed opening n start (record { source = next.input.source; sink = sink'; stock = final })) (sym held.0)
-            (subst (λ (s : Stock S). Served engine.kind handed opening 4 start (record { source = next.input.source; sink = sink'; stock = s }))
-            (sym held.1) (finish_held sink' came end.taken end.rises held.2))
+            subst (λ (n : ℕ). ServedBy g.log now.stock n (record { source = next.input.source; sink = sink'; stock = final })) (sym held.0)
+            (subst (λ (s : Stock S). ServedBy g.log now.stock 4 (record { source = next.input.source; sink = sink'; stock = s }))
+            (sym held.1) (held_by sink' came end.taken end.rises held.2))
       ]
 
   -- the line that was answered, whose text was not written
-  out_line : (out : IsLeftOut engine now next) → IsNextLine start.source.rest g.log.lines out.line
+  pub out_line : (out : IsLeftOut engine now next) → IsNextLine start.source.rest g.log.lines out.line
   out_line out all e =
       let (more, all_is) = told_front all next.input.source.rest next.input.held (g.log.lines ++ out.line ∷ [])
       (told_more all now.input.source.rest next.input.source.rest now.input.held next.input.held g.log.lines out.line (g.read all e) out.came) in
@@ -628,3 +641,21 @@ module _ {S State : Type 0} (engine : Engine S State) (laws : KindLaws engine.ki
   stop_log stop.Unwritten pass = refl
   stop_log stop.TooMuch pass = refl
   stop_log stop.Memory pass = memory_log pass pass.came.kept
+
+  -- and the stock when the last of them was answered
+  abbrev pub StopsAt : (why : Stop) → Stock S → Type 0
+  StopsAt stop.Unwritten mid = mid ≡ next.stock
+  StopsAt why mid = mid ≡ now.stock
+
+  memory_mid : (pass : PassIs engine now next (Err stop.Memory)) (kept : IsLeftAlone engine (step_of now next) ⊎ IsLeftOut engine now next)
+      → (finish_memory pass kept).mid ≡ now.stock
+  unfolding finish_memory finish_short_of finish
+  memory_mid pass (inl alone) = refl
+  memory_mid pass (inr out) = refl
+
+  pub stop_mid : (why : Stop) (pass : PassIs engine now next (Err why)) → StopsAt why (finish_stop why pass).mid
+  unfolding finish_stop finish_unread finish_too_much finish_unwritten finish
+  stop_mid stop.Unread pass = refl
+  stop_mid stop.Unwritten pass = refl
+  stop_mid stop.TooMuch pass = refl
+  stop_mid stop.Memory pass = memory_mid pass pass.came.kept

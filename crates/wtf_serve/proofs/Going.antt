@@ -147,6 +147,16 @@ going_none engine laws opening start sink' keeper' state ready room begins keepe
   keeper = keeper;
 }
 
+pub going_none_log : {S State : Type 0} (engine : Engine S State) (laws : KindLaws engine.kind)
+    (opening : Opening) (start : Devices S) (sink' : SinkView) (keeper' : KeeperView) (state : State)
+    (ready : CanBegin engine opening start.stock.shelf state) (room : (opening.number ≤ 2 ^ 62) × (opening.next_tx ≤ 2 ^ 62))
+    (begins : IsTakenFor (size_in engine.kind start.stock.shelf) opening.settings opening.number opening.next_tx opening.bytes)
+    (keeper : KeeperGoesOn start.stock.keeper keeper') (held : (b : List ℕ) → start.stock.keeper.held ≡ Some b → keeper'.held ≡ Some b)
+    (wrote : (old : List ℕ) → start.sink.taken ≡ Some old → sink'.taken ≡ Some (old ++ first_line opening)) (still : sink'.faults ≡ start.sink.faults)
+    → (going_none engine laws opening start sink' keeper' state ready room begins keeper held wrote still).log ≡ record { lines = []; answers = [] }
+unfolding going_none
+going_none_log engine laws opening start sink' keeper' state ready room begins keeper held wrote still = refl
+
 pub keeper_on : (a b c : KeeperView) → KeeperGoesOn a b → KeeperGoesOn b c → KeeperGoesOn a c
 keeper_on a b c early late = record { faults = omega (arith, early.faults, late.faults); tells = late.tells ∙ early.tells }
 
@@ -220,3 +230,8 @@ module _ {S State : Type 0} (engine : Engine S State) (laws : KindLaws engine.ki
         sink_still = pass.came.done.still ∙ g.sink_still;
         keeper = keeper_on start.stock.keeper now.stock.keeper next.stock.keeper g.keeper pass.keeper;
       }
+
+  pub going_on_log : (more : Bool) (pass : PassIs engine now next (Ok (Some more)))
+      → (going_on more pass).log ≡ longer g.log pass.came.line pass.came.done.answer
+  unfolding going_on
+  going_on_log more pass = refl

@@ -1,5 +1,5 @@
 -- What a line makes of the keeper, by what the core promises.
-use Rattle.std.proofs.Common.{◌≡◌, ℕ, List, [], ◌∷◌, ◌++◌, Ok, refl, sym, ap, subst, inl, inr, arith}
+use Rattle.std.proofs.Common.{◌≡◌, ℕ, List, [], Ok, refl, sym, ap, subst, inl, inr, arith}
 use Rattle.wtf_base.specs.declared.settings.Settings.{Settings}
 use Rattle.wtf_dev.specs.Keep.{KeeperView, KeeperKept}
 use Rattle.wtf_dev.specs.Store.{StoreKind}
@@ -36,29 +36,14 @@ keeper_same old new same = subst (KeeperStays old) (sym same) (record {
   held = λ bytes is. is;
 })
 
--- A kind of keeper, and a line over two states of one
-module _ {K : Type 0} (view : K → KeeperView) (follows : K → K → List (List ℕ) → Type 0) (itself : (s : K) → follows s s [])
-    (keeps : (a b : K) (xs : List (List ℕ)) → follows a b xs → KeeperKept (view a) (view b) xs) (old new : K) where
-  pub handed_on : HandsOver (follows old new) → KeeperGoesOn (view old) (view new)
-  handed_on (images, f) = let kept = keeps old new images f in record { faults = kept.faults; tells = kept.tells }
+pub keeper_steady : (k : KeeperView) → KeeperGoesOn k k
+keeper_steady k = record { faults = omega arith; tells = refl }
 
-  pub handed_none : new ≡ old → HandsOver (follows old new)
-  handed_none same = ([], subst (λ (k : K). follows old k []) (sym same) (itself old))
-
-  pub handed_join : (mid : K) → ((a b c : K) (xs ys : List (List ℕ)) → follows a b xs → follows b c ys → follows a c (xs ++ ys))
-      → HandsOver (follows old mid) → HandsOver (follows mid new) → HandsOver (follows old new)
-  handed_join mid joins (xs, f) (ys, g) = (xs ++ ys, joins old mid new xs ys f g)
-
-  module _ (refused : K → K → Type 0) {S : Type 0} (kind : StoreKind S) (t : Span S) (settings : Settings) (was is : TablesView) where
-    save_handed : (a : Answer) → KeeperTurn kind t (keeper_span view follows refused old new) settings was is event.Save a → HandsOver (follows old new)
-    save_handed (answer.Saved n) turn = (turn.hands.bytes ∷ [], turn.hands.handed)
-    save_handed answer.FaultSave (inl failed) = handed_none failed.untouched
-    save_handed answer.FaultSave (inr failed) = (failed.hands.bytes ∷ [], failed.hands.handed)
-    save_handed a turn = handed_none turn
-
-    pub turn_handed : (e : Event) (a : Answer) → KeeperTurn kind t (keeper_span view follows refused old new) settings was is e a → HandsOver (follows old new)
-    turn_handed event.Save a turn = save_handed a turn
-    turn_handed e a turn = handed_none turn
+-- one that was handed images goes on
+pub handed_on : {K : Type 0} (view : K → KeeperView) (follows : K → K → List (List ℕ) → Type 0)
+    (keeps : (a b : K) (xs : List (List ℕ)) → follows a b xs → KeeperKept (view a) (view b) xs) (old new : K)
+    → HandsOver (follows old new) → KeeperGoesOn (view old) (view new)
+handed_on view follows keeps old new (images, f) = let kept = keeps old new images f in record { faults = kept.faults; tells = kept.tells }
 
 -- what the core promises of a line is what a run is given of it
 module _ {K S : Type 0} (view : K → KeeperView) (follows : K → K → List (List ℕ) → Type 0) (refused : K → K → Type 0) (old new : K) (kind : StoreKind S)

@@ -8,6 +8,7 @@ pub mod PunchLaws
 pub mod Quieting
 pub mod Growing
 pub mod RanLaws
+pub mod Sparing
 pub mod Telling
 pub mod Starting
 pub mod Going
@@ -15,8 +16,9 @@ pub mod Closing
 pub mod Leaving
 pub mod Finishing
 pub mod Unstarted
-pub mod Unopening
 pub mod Underway
+pub mod Serving
+pub mod Unopening
 pub mod Refusing
 pub mod Headline
 pub mod Bared

@@ -1,9 +1,7 @@
 -- A run that was opened, on its way.
-use Rattle.std.proofs.Common.{◌≡◌, ◌<◌, ◌≤◌, ◌^◌, ◌++◌, ℕ, Bool, true, false, List, [], ◌∷◌, Some, None, Ok, Err, refl, sym, ◌∙◌, subst, arith, ap, inl, inr}
+use Rattle.std.proofs.Common.{◌≡◌, ◌<◌, ◌≤◌, ◌^◌, ◌++◌, ℕ, Bool, true, false, List, [], ◌∷◌, Some, Ok, refl, sym, ◌∙◌, subst, arith, ap, inl, inr}
 use Rattle.std.specs.Prelude.{◌||◌}
 use Rattle.wtf_base.specs.declared.settings.Settings.{Settings}
-use Rattle.wtf_dev.specs.Counts.{Rose}
-use Rattle.wtf_dev.specs.Each.{EachFollows}
 use Rattle.wtf_dev.specs.Keep.{KeeperView}
 use Rattle.wtf_dev.specs.Streams.{SinkView}
 use Rattle.wtf_dev.specs.Store.{KindLaws}
@@ -14,20 +12,16 @@ use Rattle.wtf_core.specs.Pictured.{IsTakenFor}
 use Rattle.wtf_serve.specs.declared.service.Stop.{Stop}
 use Rattle.wtf_serve.specs.declared.service.Stop.TheVariants as stop
 use Rattle.wtf_serve.specs.Beginnings.{IsOpenedFrom, Closes, Ends}
-use Rattle.wtf_serve.specs.Endings.{Devices, IsKeeperKept, Served, stop_status}
-use Rattle.wtf_serve.specs.Engines.{Engine, Step, step}
+use Rattle.wtf_serve.specs.Endings.{Devices, IsKeeperKept, stop_status}
+use Rattle.wtf_serve.specs.Engines.{Engine, Step}
 use Rattle.wtf_serve.specs.Logs.{first_line}
 use Rattle.wtf_serve.specs.Openings.{Opening, Opens, IsTakenOver}
 use Rattle.wtf_serve.specs.Passes.{Hand, hand, input, PassIs}
 use Rattle.wtf_serve.specs.Scripts.{end_status, settings_line}
-use Rattle.wtf_serve.specs.Stocks.{Stock, stock, KeeperGoesOn}
-use Rattle.wtf_serve.specs.Turns.{WroteFront}
-use Rattle.wtf_serve.specs.Unopened.{IsRunWith}
-use Rattle.wtf_serve.proofs.Finishing.{finish_end, finish_stop}
-use Rattle.wtf_serve.proofs.Going.{Going, going_none, going_on}
-use Rattle.wtf_serve.proofs.Leaving.{KeepsWithin}
+use Rattle.wtf_serve.specs.Stocks.{stock, KeeperGoesOn}
+use Rattle.wtf_serve.proofs.Going.{Going, going_none, going_none_log, going_on, going_on_log}
+use Rattle.wtf_serve.proofs.RanLaws.{longer}
 use Rattle.wtf_serve.proofs.Starting.{same_rows}
-use Rattle.wtf_serve.proofs.Unstarted.{unwritten}
 
 -- a run so far, with what opened it
 pub record Underway {S State : Type 0} (engine : Engine S State) (asked : Settings) (start : Devices S) (now : Hand S State) (bad : Bool) : Type 0 where
@@ -80,7 +74,7 @@ module _ {S State : Type 0} (engine : Engine S State) (laws : KindLaws engine.ki
     (state : State) (sink' : SinkView) (text : List ℕ) (o : IsOpenedFrom engine asked start.stock.keeper start.stock.shelf state)
     (kept : IsKeeperKept handed start.stock.keeper keeper') (keeper : KeeperGoesOn start.stock.keeper keeper')
     (text_is : text ≡ settings_line (engine.settings state) (engine.number state)) where
-  first_is : text ≡ first_line o.opening
+  pub first_is : text ≡ first_line o.opening
   first_is = text_is ∙ line_of_first engine o.opening state o.ready.settings o.ready.number
 
   pub underway_first : ((old : List ℕ) → start.sink.taken ≡ Some old → sink'.taken ≡ Some (old ++ text)) → sink'.faults ≡ start.sink.faults
@@ -93,16 +87,13 @@ module _ {S State : Type 0} (engine : Engine S State) (laws : KindLaws engine.ki
       (begins_of (size_in engine.kind start.stock.shelf) asked o.opening.bytes o.opening o.opens o.ready.taken) keeper kept.held
       (λ old e. wrote old e ∙ ap (λ (x : List ℕ). Some (old ++ x)) first_is) still)
 
-  pub unwritten_first : ((old : List ℕ) → start.sink.taken ≡ Some old → WroteFront old text sink'.taken) → Rose start.sink.faults sink'.faults
-      → start.sink.faults ≤ sink'.faults
-      → IsRunWith engine.kind handed asked 4 start (record { source = start.source; sink = sink'; stock = stock start.stock.shelf keeper' })
-  unwritten_first cut cause faults = inr (record {
-    opening = o.opening;
-    opens = o.opens;
-    given = o.given;
-    served = unwritten engine.kind laws handed o.opening start keeper' kept keeper sink' o.ready.enough o.ready.taken
-        (λ old e. let (front, back, all, new) = cut old e in (front, back, sym first_is ∙ all, new)) cause faults;
-  })
+  pub underway_first_log : (wrote : (old : List ℕ) → start.sink.taken ≡ Some old → sink'.taken ≡ Some (old ++ text)) (still : sink'.faults ≡ start.sink.faults)
+      → (underway_first wrote still).going.log ≡ record { lines = []; answers = [] }
+  unfolding underway_first underway
+  underway_first_log wrote still =
+      going_none_log engine laws o.opening start sink' keeper' state o.ready (room_of asked o.opening.bytes o.opening o.opens)
+      (begins_of (size_in engine.kind start.stock.shelf) asked o.opening.bytes o.opening o.opens o.ready.taken) keeper kept.held
+      (λ old e. wrote old e ∙ ap (λ (x : List ℕ). Some (old ++ x)) first_is) still
 
 -- no run that has begun its lines ends as one with few stores
 pub stop_not_few : (why : Stop) → stop_status why ≡ 2 → ⊥
@@ -127,26 +118,14 @@ end_not_few engine t sink sink' bad status end e = elim end.ends [
   | inr held ↦ omega (arith, held.0, e)
 ]
 
--- how it goes on and ends
-module _ {S State : Type 0} (engine : Engine S State) (laws : KindLaws engine.kind) (handed : List (List ℕ) → Type 0) (asked : Settings) (start : Devices S)
-    (now next : Hand S State)
+-- how it goes on
+module _ {S State : Type 0} (engine : Engine S State) (laws : KindLaws engine.kind) (asked : Settings) (start : Devices S) (now next : Hand S State)
     (bad : Bool) (u : Underway engine asked start now bad) where
-  opened : (status : ℕ) (new : Devices S) → Served engine.kind handed u.opening status start new → IsRunWith engine.kind handed asked status start new
-  opened status new served = inr (record { opening = u.opening; opens = u.opens; given = u.given; served = served })
-
   pub underway_on : (more : Bool) → PassIs engine now next (Ok (Some more)) → Underway engine asked start next (bad || more)
   underway_on more pass = underway engine asked u.opening start next (bad || more) u.opens u.given
       (going_on engine laws u.opening start now next bad u.going more pass)
 
-  pub underway_end : KeepsWithin engine → (status : ℕ) (sink' : SinkView) (final : Stock S) (state' : State) → PassIs engine now next (Ok None)
-      → EachFollows engine.kind next.stock.shelf final.shelf []
-      → KeeperGoesOn next.stock.keeper final.keeper → Ends engine (step next.stock final next.state state') next.sink sink' bad status
-      → IsRunWith engine.kind handed asked status start (record { source = next.input.source; sink = sink'; stock = final })
-  underway_end keeps status sink' final state' pass follows keeper ends =
-      opened status (record { source = next.input.source; sink = sink'; stock = final })
-      (finish_end engine laws keeps handed u.opening start now next bad u.going status sink' final state' pass follows keeper ends)
-
-  pub underway_stop : KeepsWithin engine → (why : Stop) → PassIs engine now next (Err why)
-      → IsRunWith engine.kind handed asked (stop_status why) start (record { source = next.input.source; sink = next.sink; stock = next.stock })
-  underway_stop keeps why pass = opened (stop_status why) (record { source = next.input.source; sink = next.sink; stock = next.stock })
-      (finish_stop engine laws keeps handed u.opening start now next bad u.going why pass)
+  pub underway_on_log : (more : Bool) (pass : PassIs engine now next (Ok (Some more)))
+      → (underway_on more pass).going.log ≡ longer u.going.log pass.came.line pass.came.done.answer
+  unfolding underway_on underway
+  underway_on_log more pass = going_on_log engine laws u.opening start now next bad u.going more pass

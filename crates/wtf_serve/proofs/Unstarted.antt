@@ -126,3 +126,22 @@ module _ {S : Type 0} (kind : StoreKind S) (laws : KindLaws kind) (handed : List
       (faults : start.sink.faults ≤ sink'.faults) → (unwritten sink' many taken cut cause faults).log ≡ no_line
   unfolding unstarted_as unwritten
   unwritten_log sink' many taken cut cause faults = refl
+
+  -- ---- nor had the stores changed
+  abbrev here : Stock S
+  here = stock start.stock.shelf keeper'
+
+  pub unwritten_mid : (sink' : SinkView) (many : opening.settings.servers ≤ length start.stock.shelf)
+      (taken : IsTakenOver (size_in kind start.stock.shelf) opening.bytes)
+      (cut : (old : List ℕ) → start.sink.taken ≡ Some old → WroteFront old (first_line opening) sink'.taken) (cause : Rose start.sink.faults sink'.faults)
+      (faults : start.sink.faults ≤ sink'.faults) → (unwritten sink' many taken cut cause faults).mid ≡ here
+  unfolding unstarted_as unwritten
+  unwritten_mid sink' many taken cut cause faults = refl
+
+  pub refused_log : (few : length start.stock.shelf < opening.settings.servers) → (refused few).log ≡ no_line
+  unfolding unstarted_as refused
+  refused_log few = refl
+
+  pub refused_mid : (few : length start.stock.shelf < opening.settings.servers) → (refused few).mid ≡ here
+  unfolding unstarted_as refused
+  refused_mid few = refl

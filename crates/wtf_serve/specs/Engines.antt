@@ -214,7 +214,7 @@ Saves engine t answer.FaultSave =
     IsSaveFault engine.kind (span_of engine t) (engine.settings t.old).servers t.before.keeper t.after.keeper
 Saves engine t a = ⊥
 
--- a line that is no save hands the keeper nothing
+-- behind a line that is no save the keeper holds what it told (that it was handed nothing is said by `Sparing`)
 abbrev pub HandsOnlySaves : {S State : Type 0} → Engine S State → Step S State → Line → Answer → Type 0
 HandsOnlySaves engine t line a = MatchBool (is_save line) (Saves engine t a) (KeeperStays t.before.keeper t.after.keeper)
 

@@ -7,11 +7,13 @@ pub mod Punched
 pub mod Quiet
 pub mod Engines
 pub mod Cores
+pub mod Sparing
 pub mod Turns
 pub mod Passes
 pub mod Runs
 pub mod Traces
 pub mod Endings
+pub mod Spared
 pub mod Unopened
 pub mod Beginnings
 pub mod Generated

@@ -1,5 +1,6 @@
 -- What reading a line, answering it and writing its answer give.
-use Rattle.std.specs.Prelude.{◌≡◌, ◌≢◌, ◌⊎◌, ◌<◌, ◌≤◌, ◌+◌, ℕ, Bool, true, List, length, Option, Some, None, Result, Ok, Err, is_err}
+use Rattle.std.specs.Prelude.{◌≡◌, ◌≢◌, ◌⊎◌, ◌<◌, ◌≤◌, ◌+◌, ℕ, Bool, true, false, List, [], length, Option, Some, None, Result, Ok, Err, is_err}
+use Rattle.std.proofs.Common.{inl, inr}
 use Rattle.wtf_dev.specs.Counts.{Rose}
 use Rattle.wtf_dev.specs.Streams.{SourceView, SinkView}
 use Rattle.wtf_model.specs.Lines.{Line}
@@ -8,7 +9,8 @@ use Rattle.wtf_serve.specs.declared.service.Stop.TheVariants as stop
 use Rattle.wtf_script.specs.declared.limits.TheConstants.{CHUNK_BYTES, SCRIPT_BYTES}
 use Rattle.wtf_script.specs.Reading.{Held, ReadsLine, ReadsEnd, ReadsFault, ReadsTooMuch, Counts, Draws, work}
 use Rattle.wtf_serve.specs.Scripts.{line_of}
-use Rattle.wtf_serve.specs.Engines.{Engine, Step}
+use Rattle.wtf_serve.specs.Engines.{Engine, Step, span_of}
+use Rattle.wtf_serve.specs.Sparing.{SparesStores, LineSpares}
 use Rattle.wtf_serve.specs.Answering.{IsFormLine}
 use Rattle.wtf_serve.specs.Stocks.{Stock, KeeperGoesOn}
 use Rattle.wtf_serve.specs.Turns.{IsLineDone, IsCutOff, IsLeftAlone, IsUnwritten}
@@ -126,3 +128,25 @@ pub record PassIs {S State : Type 0} (engine : Engine S State) (h h' : Hand S St
   pub limit : result ≢ Err stop.TooMuch → h'.input.held.count ≤ SCRIPT_BYTES
   pub sink_faults : h.sink.faults ≤ h'.sink.faults
   pub keeper : KeeperGoesOn h.stock.keeper h'.stock.keeper
+
+-- What the line of a pass left alone, where it was answered or not; without a line nothing was handed to the keeper.
+
+abbrev pub ShortSpares : {S State : Type 0} → (engine : Engine S State) (handed : List (List ℕ) → Type 0) (h h' : Hand S State)
+    → IsLeftAlone engine (step_of h h') ⊎ IsLeftOut engine h h' → Type 0
+ShortSpares engine handed h h' (inl alone) = SparesStores engine.kind (span_of engine (step_of h h')) false × handed []
+ShortSpares engine handed h h' (inr out) = LineSpares engine.kind handed (span_of engine (step_of h h')) (line_of out.line) (Some out.out.answer)
+
+abbrev pub PassSpares : {S State : Type 0} → (engine : Engine S State) (handed : List (List ℕ) → Type 0) (h h' : Hand S State)
+    (result : Result (Option Bool) Stop) → PassCame engine h h' result → Type 0
+PassSpares engine handed h h' (Ok (Some bad)) came =
+    LineSpares engine.kind handed (span_of engine (step_of h h')) (line_of came.line) (Some came.done.answer)
+PassSpares engine handed h h' (Ok None) came = handed []
+PassSpares engine handed h h' (Err stop.Unwritten) came =
+    LineSpares engine.kind handed (span_of engine (step_of h h')) (line_of came.line) (Some came.cut.answer)
+PassSpares engine handed h h' (Err stop.Memory) came = ShortSpares engine handed h h' came.kept
+PassSpares engine handed h h' (Err why) came = handed []
+
+pub record PassDoes {S State : Type 0} (engine : Engine S State) (handed : List (List ℕ) → Type 0) (h h' : Hand S State)
+    (result : Result (Option Bool) Stop) : Type 0 where
+  pub is : PassIs engine h h' result
+  pub spares : PassSpares engine handed h h' result is.came

@@ -65,7 +65,7 @@ pub record KeeperGoesOn (old new : KeeperView) : Type 0 where
   pub faults : old.faults ≤ new.faults
   pub tells : new.tells ≡ old.tells
 
--- a keeper that was handed nothing: what it tells that it holds stays
+-- what a keeper tells that it holds stays, as where it was handed nothing
 pub record KeeperStays (old new : KeeperView) : Type 0 where
   pub goes_on : KeeperGoesOn old new
   pub held : (bytes : List ℕ) → old.held ≡ Some bytes → new.held ≡ Some bytes

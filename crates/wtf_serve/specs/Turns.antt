@@ -1,5 +1,6 @@
 -- What writing a text, and answering a line with its text, give.
-use Rattle.std.specs.Prelude.{◌≡◌, ◌⊎◌, ℕ, List, [], ◌++◌, Option, Some, Result, Ok, Err}
+use Rattle.std.specs.Prelude.{◌≡◌, ◌⊎◌, ℕ, List, [], ◌++◌, Option, None, Some, Result, Ok, Err}
+use Rattle.std.proofs.Common.{inl, inr}
 use Rattle.wtf_dev.specs.Counts.{Rose}
 use Rattle.wtf_dev.specs.Each.{EachFollows}
 use Rattle.wtf_dev.specs.Streams.{SinkView}
@@ -8,7 +9,8 @@ use Rattle.wtf_model.specs.Lines.{Line}
 use Rattle.wtf_serve.specs.declared.service.Stop.{Stop}
 use Rattle.wtf_serve.specs.declared.service.Stop.TheVariants as stop
 use Rattle.wtf_serve.specs.Scripts.{line_text}
-use Rattle.wtf_serve.specs.Engines.{Engine, Step, IsAnswer}
+use Rattle.wtf_serve.specs.Engines.{Engine, Step, span_of, IsAnswer}
+use Rattle.wtf_serve.specs.Sparing.{LineSpares}
 use Rattle.wtf_serve.specs.Stocks.{KeeperStays}
 
 -- a front of a text was written, and no more
@@ -50,3 +52,22 @@ TurnIs engine t line sink sink' (Ok u) = IsLineDone engine t line sink sink'
 TurnIs engine t line sink sink' (Err stop.Unwritten) = IsCutOff engine t line sink sink'
 TurnIs engine t line sink sink' (Err stop.Memory) = (sink' ≡ sink) × (IsLeftAlone engine t ⊎ IsUnwritten engine t line)
 TurnIs engine t line sink sink' (Err other) = ⊥
+
+-- the answer that was given, where one was
+abbrev pub answer_for : {S State : Type 0} → (engine : Engine S State) (t : Step S State) (line : Line) → IsLeftAlone engine t ⊎ IsUnwritten engine t line
+    → Option Answer
+answer_for engine t line (inl alone) = None
+answer_for engine t line (inr out) = Some out.answer
+
+abbrev pub turn_answer : {S State : Type 0} → (engine : Engine S State) (t : Step S State) (line : Line) (sink sink' : SinkView)
+    (result : Result (Unit {0}) Stop) → TurnIs engine t line sink sink' result → Option Answer
+turn_answer engine t line sink sink' (Ok u) is = Some is.answer
+turn_answer engine t line sink sink' (Err stop.Unwritten) is = Some is.answer
+turn_answer engine t line sink sink' (Err stop.Memory) is = answer_for engine t line is.1
+turn_answer engine t line sink sink' (Err other) is = None
+
+-- and what the line left alone
+pub record TurnDoes {S State : Type 0} (engine : Engine S State) (handed : List (List ℕ) → Type 0) (t : Step S State) (line : Line)
+    (sink sink' : SinkView) (result : Result (Unit {0}) Stop) : Type 0 where
+  pub is : TurnIs engine t line sink sink' result
+  pub spares : LineSpares engine.kind handed (span_of engine t) line (turn_answer engine t line sink sink' result is)

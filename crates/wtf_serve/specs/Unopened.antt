@@ -13,6 +13,7 @@ use Rattle.wtf_image.specs.Loading.{IsLoadRefusal}
 use Rattle.wtf_script.specs.ScriptLines.{line_feed}
 use Rattle.wtf_serve.specs.Openings.{Opening, Opens}
 use Rattle.wtf_serve.specs.Endings.{Devices, IsKeeperKept, Served}
+use Rattle.wtf_serve.specs.Spared.{RunSpares}
 use Rattle.wtf_serve.specs.Turns.{WroteFront}
 
 -- the line of a refused image: the number of the refusal, and its name
@@ -80,6 +81,7 @@ pub record IsOpened {S : Type 0} (kind : StoreKind S) (handed : List (List ℕ) 
   pub opens : Opens settings opening.bytes opening
   pub given : (held : List ℕ) → old.stock.keeper.held ≡ Some held → opening.bytes ≡ held
   pub served : Served kind handed opening status old new
+  pub spares : RunSpares kind handed status served.log served.mid.shelf old new
 
 -- a whole run, where these settings were asked for
 abbrev pub IsRunWith : {S : Type 0} → StoreKind S → (List (List ℕ) → Type 0) → Settings → ℕ → Devices S → Devices S → Type 0

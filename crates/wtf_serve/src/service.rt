@@ -3,16 +3,19 @@
 ghost use Rattle.std.specs.Prelude.{◌≡◌, ◌≢◌, ◌<◌, ◌≤◌, ◌^◌, ◌++◌, ◌||◌, ℕ, List, [], Some, Ok, Err, IfOk, IfErr, OnOk, OnErr};
 ghost use Rattle.wtf_dev.specs.Counts.{Rose};
 ghost use Rattle.wtf_dev.specs.Each.{EachFollows};
+ghost use Rattle.wtf_replica.specs.Downs.{is_down};
+ghost use Rattle.wtf_replica.specs.Spans.{span};
 ghost use Rattle.wtf_model.specs.declared.event.Event.TheVariants.{Save};
 ghost use Rattle.wtf_serve.specs.Endings.{devices, stop_status};
 ghost use Rattle.wtf_serve.specs.Unopened.{IsRunWith};
-ghost use Rattle.wtf_serve.specs.Turns.{AllTaken, TurnIs};
-ghost use Rattle.wtf_serve.specs.Passes.{Came, HasDrawn, PassIs, IsFormRead, input, hand};
+ghost use Rattle.wtf_serve.specs.Turns.{AllTaken, TurnDoes};
+ghost use Rattle.wtf_serve.specs.Passes.{Came, HasDrawn, PassDoes, IsFormRead, input, hand};
 ghost use Rattle.wtf_serve.specs.Answering.{IsFormLine};
 ghost use Rattle.wtf_serve.specs.Beginnings.{Closes, Ends};
 ghost use Rattle.wtf_serve.specs.Engines.{IsAnswer, step};
 ghost use Rattle.wtf_serve.specs.Cores.{IsSoundCore, engine};
 ghost use Rattle.wtf_serve.specs.Scripts.{end_status, line_text, settings_line};
+ghost use Rattle.wtf_serve.specs.Sparing.{EndSpares, LineSpares, answer_of};
 ghost use Rattle.wtf_serve.specs.Stocks.{stock, KeeperGoesOn, KeeperStays, HandsOver};
 ghost use Rattle.wtf_script.specs.declared.limits.TheConstants.{SCRIPT_BYTES};
 
@@ -161,7 +164,8 @@ fn answer<S: SliceStore, K: Keeper>(
     ensures bad { IfErr line (λ bad. result ≡ Ok bad) }
     ensures follows { OnErr result (EachFollows S.kind shelf.old shelf.new []) }
     ensures keeper { KeeperGoesOn (K.view keeper.old) (K.view keeper.new) }
-    ensures handed { HandsOver (K.follows keeper.old keeper.new) }
+    ensures spares { LineSpares S.kind (K.follows keeper.old keeper.new)
+        (span (is_down core.old.replicas) shelf.old shelf.new) line (answer_of result) }
     ensures unkept { OnErr result (KeeperStays (K.view keeper.old) (K.view keeper.new)) }
 {
     match line {
@@ -205,13 +209,12 @@ fn turn<O: Sink, S: SliceStore, K: Keeper>(
     requires next_tx { core.old.tables.next_tx < 2 ^ 63 }
     requires form { IsFormLine line }
     requires sound { IsSoundCore S.kind shelf.old core.old }
-    ensures turn { TurnIs (engine S.kind)
+    ensures turn { TurnDoes (engine S.kind) (K.follows keeper.old keeper.new)
         (step (stock shelf.old (K.view keeper.old)) (stock shelf.new (K.view keeper.new))
         core.old core.new)
         line (O.view out.old) (O.view out.new) result }
     ensures faults { (O.view out.old).faults ≤ (O.view out.new).faults }
     ensures keeper { KeeperGoesOn (K.view keeper.old) (K.view keeper.new) }
-    ensures handed { HandsOver (K.follows keeper.old keeper.new) }
 {
     let Ok(answer) = answer(core, shelf, keeper, line) else {
         return Err(Stop::Memory);
@@ -241,12 +244,11 @@ fn pass<I: Source, O: Sink, S: SliceStore, K: Keeper>(
     requires number { core.old.tables.kv.number < 2 ^ 63 }
     requires next_tx { core.old.tables.next_tx < 2 ^ 63 }
     requires sound { IsSoundCore S.kind shelf.old core.old }
-    ensures pass { PassIs (engine S.kind)
+    ensures { PassDoes (engine S.kind) (K.follows keeper.old keeper.new)
         (hand (input (I.view script.old) reader.old.lines) (O.view out.old)
         (stock shelf.old (K.view keeper.old)) core.old)
         (hand (input (I.view script.new) reader.new.lines) (O.view out.new)
         (stock shelf.new (K.view keeper.new)) core.new) result }
-    ensures handed { HandsOver (K.follows keeper.old keeper.new) }
 {
     let line = match read_line(reader, script) {
         Ok(Some(line)) => line,
@@ -287,7 +289,8 @@ fn close<S: SliceStore, K: Keeper>(
         core.old core.new) bad result }
     ensures follows { EachFollows S.kind shelf.old shelf.new [] }
     ensures keeper { KeeperGoesOn (K.view keeper.old) (K.view keeper.new) }
-    ensures handed { HandsOver (K.follows keeper.old keeper.new) }
+    ensures spares { EndSpares S.kind (K.follows keeper.old keeper.new)
+        (span (is_down core.old.replicas) shelf.old shelf.new) result }
 {
     let Ok(answer) = answer(core, shelf, keeper, Ok(Event::Save)) else {
         return OUT_OF_MEMORY;
@@ -313,7 +316,8 @@ fn finish<O: Sink, S: SliceStore, K: Keeper>(
         (O.view out.old) (O.view out.new) bad result }
     ensures follows { EachFollows S.kind shelf.old shelf.new [] }
     ensures keeper { KeeperGoesOn (K.view keeper.old) (K.view keeper.new) }
-    ensures handed { HandsOver (K.follows keeper.old keeper.new) }
+    ensures spares { EndSpares S.kind (K.follows keeper.old keeper.new)
+        (span (is_down core.old.replicas) shelf.old shelf.new) result }
 {
     let Ok(()) = bring_out(out) else {
         return WRITING_FAILED;

@@ -21,7 +21,7 @@ returns-clause-unopened g c = λ source.
     let old = c.args.keeper.now in
     let new = c.load.new.self in
     let kept : IsKeeperKept (g.K.Keeper.follows old new) (view old) (view new) = record { held = c.load.ensures.held; nothing = c.load.ensures.follows } in
-    let keeper : KeeperGoesOn (view old) (view new) = handed_on view g.K.Keeper.follows g.met.K.Keeper.follows_itself g.met.K.Keeper.keeps old new
+    let keeper : KeeperGoesOn (view old) (view new) = handed_on view g.K.Keeper.follows g.met.K.Keeper.keeps old new
     (_, c.load.ensures.follows) in
     not_opened g.S.SliceStore.kind g.met.S.SliceStore.laws (g.K.Keeper.follows old new) c.args.settings c.args.shelf.now (view old)
     (view new) kept keeper source (g.O.Sink.view c.args.out.now)

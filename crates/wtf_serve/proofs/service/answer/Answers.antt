@@ -1,4 +1,4 @@
-use Rattle.std.proofs.Common.{◌≡◌, Ok, sym, ap, subst}
+use Rattle.std.proofs.Common.{◌≡◌, Some, Ok, sym, ap, subst}
 use Rattle.wtf_replica.specs.Downs.{is_down}
 use Rattle.wtf_replica.specs.Spans.{span}
 use Rattle.wtf_model.specs.declared.event.Event.{Event}
@@ -7,8 +7,10 @@ use Rattle.wtf_model.specs.Lines.{Line}
 use Rattle.wtf_core.proofs.Lent.{on_any}
 use Rattle.wtf_serve.specs.Engines.{IsAnswer, step}
 use Rattle.wtf_serve.specs.Cores.{engine}
+use Rattle.wtf_serve.specs.Sparing.{LineSpares}
 use Rattle.wtf_serve.specs.Stocks.{stock}
-use Rattle.wtf_serve.proofs.Keeping.{keeper_same, handed_on, turn_handed, event_kept}
+use Rattle.wtf_serve.proofs.Keeping.{keeper_same, handed_on, event_kept}
+use Rattle.wtf_serve.proofs.Sparing.{event_spares}
 use Rattle.wtf_serve.specs.Answering.{IsFormLine}
 use Rattle.wtf_serve.proofs.LineLaws.{bad_is, event_goes_on, event_told, event_punches, event_obeys}
 use Rattle.wtf_serve.proofs.service.answer.Goals as goal
@@ -41,19 +43,20 @@ returns-in_ok-answer-in-Ok-clause-is g c =
           c.args.core.now c.take.new.self c.in-Ok.event a is.does.kept.turn is.does.turn;
     })
 
-pub returns-in_ok-answer-in-Ok-clause-handed : goal.returns-in_ok-answer-in-Ok-clause-handed
-returns-in_ok-answer-in-Ok-clause-handed g c =
+pub returns-in_ok-answer-in-Ok-clause-spares : goal.returns-in_ok-answer-in-Ok-clause-spares
+returns-in_ok-answer-in-Ok-clause-spares g c =
     let kind = g.S.SliceStore.kind in
     let is = c.in_ok-answer-in-Ok.ensures in
-    turn_handed g.K.Keeper.view g.K.Keeper.follows g.met.K.Keeper.follows_itself g.met.K.Keeper.keeps c.args.keeper.now c.take.new.keeper
-    g.K.Keeper.refused kind
-    (span (is_down c.args.core.now.replicas) c.args.shelf.now c.take.new.shelf) c.args.core.now.settings c.args.core.now.tables c.take.new.self.tables
-    c.in-Ok.event c.in_ok-answer-in-Ok.answer is.does.kept.turn
+    let did = event_spares g.K.Keeper.view g.K.Keeper.follows g.met.K.Keeper.follows_itself g.K.Keeper.refused c.args.keeper.now c.take.new.keeper kind
+    c.args.shelf.now c.take.new.shelf c.args.core.now c.take.new.self c.in-Ok.event c.in_ok-answer-in-Ok.answer is.does.kept.turn is.does.turn is.stays in
+    subst (λ (e : Line). LineSpares kind (g.K.Keeper.follows c.args.keeper.now c.take.new.keeper)
+    (span (is_down c.args.core.now.replicas) c.args.shelf.now c.take.new.shelf) e (Some c.in_ok-answer-in-Ok.answer)) (sym c.in-Ok.is) did
 
 pub returns-in_ok-answer-in-Ok-clause-keeper : goal.returns-in_ok-answer-in-Ok-clause-keeper
 returns-in_ok-answer-in-Ok-clause-keeper g c =
-    handed_on g.K.Keeper.view g.K.Keeper.follows g.met.K.Keeper.follows_itself g.met.K.Keeper.keeps c.args.keeper.now c.take.new.keeper
-    (returns-in_ok-answer-in-Ok-clause-handed g c)
+    let did = returns-in_ok-answer-in-Ok-clause-spares g c in
+    handed_on g.K.Keeper.view g.K.Keeper.follows g.met.K.Keeper.keeps c.args.keeper.now c.take.new.keeper
+    (did.images, did.handed_are)
 
 pub returns-in-Err-clause-is : goal.returns-in-Err-clause-is
 returns-in-Err-clause-is g c =

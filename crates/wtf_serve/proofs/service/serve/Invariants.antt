@@ -2,17 +2,16 @@ use Rattle.wtf_script.specs.Reading.{work}
 use Rattle.wtf_serve.specs.Cores.{engine}
 use Rattle.wtf_serve.specs.Endings.{devices}
 use Rattle.wtf_serve.specs.Passes.{input, hand}
-use Rattle.wtf_serve.specs.Stocks.{stock, HandsOver}
-use Rattle.wtf_serve.proofs.Underway.{Underway}
+use Rattle.wtf_serve.specs.Stocks.{stock}
+use Rattle.wtf_serve.proofs.Serving.{Serving}
 use Rattle.wtf_serve.proofs.service.serve.Given as goal
 
--- the run so far, and what was handed to the keeper
+-- the run so far, and what its lines left alone
 abbrev pub invariant-loop-more : goal.invariant-loop-more
 invariant-loop-more g l = record {
-  run : Underway (engine g.S.SliceStore.kind) l.fn.settings
+  run : Serving (engine g.S.SliceStore.kind) (g.K.Keeper.follows l.fn.keeper l.keeper) l.fn.settings
       (devices (g.I.Source.view l.fn.script) (g.O.Sink.view l.fn.out) l.fn.shelf (g.K.Keeper.view l.fn.keeper))
       (hand (input (g.I.Source.view l.script) l.reader.lines) (g.O.Sink.view l.out) (stock l.shelf (g.K.Keeper.view l.keeper)) l.core) l.bad;
-  handed : HandsOver (g.K.Keeper.follows l.fn.keeper l.keeper);
 }
 
 abbrev pub decreases-loop-more : goal.decreases-loop-more
