@@ -1,6 +1,7 @@
 -- A journaled run on its way, and how it ends.
-use Rattle.std.proofs.Common.{◌≡◌, ◌⊎◌, ◌<◌, ◌≤◌, ◌^◌, ◌++◌, ℕ, Bool, true, false, List, [], ◌∷◌, None, Some, Ok, Err, refl, sym, ◌∙◌, ap, subst}
+use Rattle.std.proofs.Common.{◌≡◌, ◌⊎◌, ◌<◌, ◌≤◌, ◌+◌, ◌^◌, ◌++◌, ℕ, Bool, true, false, List, [], ◌∷◌, length, None, Some, Ok, Err, refl, sym, ◌∙◌, ap, subst}
 use Rattle.std.proofs.Common.{inl, inr, append_assoc, ⊎_elim, arith}
+use Rattle.std.proofs.lemmas.List.{length_push}
 use Rattle.std.specs.Prelude.{⊤, ◌||◌}
 use Rattle.wtf_base.specs.declared.settings.Settings.{Settings}
 use Rattle.wtf_dev.specs.Counts.{Rose}
@@ -28,7 +29,7 @@ use Rattle.wtf_serve.specs.Endings.{Devices, IsKeeperKept, IsNextLine, Served, s
 use Rattle.wtf_serve.specs.Beginnings.{CanBegin}
 use Rattle.wtf_serve.specs.Logs.{Log, first_line, last}
 use Rattle.wtf_serve.specs.Openings.{Opening, StartsFrom, first}
-use Rattle.wtf_serve.specs.Passes.{Input, IsQuiet, PassIs, input, step_of}
+use Rattle.wtf_serve.specs.Passes.{CameLine, Input, IsQuiet, PassIs, input, step_of}
 use Rattle.wtf_serve.specs.Scripts.{end_status, settings_line}
 use Rattle.wtf_serve.specs.Stocks.{KeeperGoesOn, Stock}
 use Rattle.wtf_serve.specs.Turns.{WroteFront}
@@ -40,20 +41,23 @@ use Rattle.wtf_serve.proofs.Keeping.{text_some}
 use Rattle.wtf_serve.proofs.Leaving.{KeepsWithin}
 use Rattle.wtf_serve.proofs.RanLaws.{longer, so_far_more}
 use Rattle.wtf_serve.proofs.Telling.{told_front, told_more}
+use Rattle.wtf_core.specs.Named.{IsInside}
 use Rattle.wtf_core.specs.Promises.{CoreHasRoom}
 use Rattle.wtf_core.specs.Standing.{IsSmall}
 use Rattle.wtf_core.proofs.FirstStores.{kept_within}
 use Rattle.wtf_durable.specs.Journaled.{StandsDurably}
-use Rattle.wtf_durable.specs.Stops.{LeavesTree, Leftover}
-use Rattle.wtf_durable.specs.Opened.{IsGivenBy, OpensDurable}
+use Rattle.wtf_durable.specs.Stops.{LeavesStore, Leftover}
+use Rattle.wtf_durable.specs.Opened.{IsGivenBy, LeavesRecords, OpensDurable}
 use Rattle.wtf_durable.specs.Views.{DurableView, blind, durable_scene}
 use Rattle.wtf_durable.proofs.Stopping.{durable_leaves}
+use Rattle.wtf_durable.proofs.Trees.{store_later}
 use Rattle.wtf_journaled.specs.declared.halt.Halt.{Halt}
 use Rattle.wtf_journaled.specs.declared.halt.Halt.TheVariants as halt
-use Rattle.wtf_journaled.specs.Breaks.{BreaksOff, MayGrow, PassBreaks, halt_status, stop_of, text_status}
+use Rattle.wtf_journaled.specs.Breaks.{BreaksOff, FailsAt, MayGrow, PassBreaks, halt_status, stop_of, text_status}
 use Rattle.wtf_journaled.specs.Engine.{JournaledHand, JournaledState, journaled_hand, journaled, journaled_engine, scene_of}
 use Rattle.wtf_journaled.proofs.LineLaws.{disk_same}
-use Rattle.wtf_journaled.specs.Runs.{BeginsSafely, HasBegun, IsJournaledRun, IsOfNextLine, JournaledDevices, LastsBehind, StopBehind, blind_devices, on_devices}
+use Rattle.wtf_journaled.specs.Runs.{BeginsSafely, FailsAtNext, HasBegun, IsJournaledRun, IsOfNextLine, JournaledDevices, LastsBehind, StopBehind}
+use Rattle.wtf_journaled.specs.Runs.{blind_devices, on_devices}
 
 module _ {S D : Type 0} (stores : DiskKind S) (kind : DiskKind D) (store_laws : DiskLaws stores) (disk_laws : DiskLaws kind) where
   laws : KindLaws (synced_kind stores)
@@ -122,17 +126,20 @@ module _ {S D : Type 0} (stores : DiskKind S) (kind : DiskKind D) (store_laws : 
     journaling_on more pass = journaling asked old next (bad || more) j.shelf j.disk j.opening j.begun
         (going_on (journaled_engine stores kind) laws j.opening start now next bad j.going more pass) goes_then
 
-    next_line : (b : BreaksOff stores kind now next) → IsNextLine old.source.rest j.going.log.lines b.line
-    next_line b all e =
-        let (more, all_is) = told_front all input'.source.rest input'.held (j.going.log.lines ++ b.line ∷ [])
-        (told_more all now.input.source.rest input'.source.rest now.input.held input'.held j.going.log.lines b.line (j.going.read all e) b.came) in
-        (more, all_is ∙ append_assoc j.going.log.lines (b.line ∷ []) more)
+    next_line : (line : List ℕ) → CameLine now.input input' line → IsNextLine old.source.rest j.going.log.lines line
+    next_line line came all e =
+        let (more, all_is) = told_front all input'.source.rest input'.held (j.going.log.lines ++ line ∷ [])
+        (told_more all now.input.source.rest input'.source.rest now.input.held input'.held j.going.log.lines line (j.going.read all e) came) in
+        (more, all_is ∙ append_assoc j.going.log.lines (line ∷ []) more)
 
     -- ---- what a stop leaves, where the devices tell, there is room, and the run starts from this tree
     module _ (tells : TellsAll (synced_kind stores) j.shelf) (told : (kind.view old.disk).tells ≡ true) (low : j.opening.number ≤ 2 ^ 61)
         (few : j.opening.next_tx ≤ 2 ^ 61) (t : Tree) (from : StartsFrom (byte_at (synced_kind stores) j.shelf) j.opening.bytes t) where
       abbrev m : Machine
       m = last j.opening t j.going.log
+
+      abbrev most : ℕ
+      most = j.opening.next_tx + length j.going.log.lines + 1
 
       told_now : (kind.view now.state.disk).tells ≡ true
       told_now = j.on.tells ∙ j.begun.goes_on.tells ∙ told
@@ -162,13 +169,22 @@ module _ {S D : Type 0} (stores : DiskKind S) (kind : DiskKind D) (store_laws : 
           (subst (λ (s : Stock (SyncedState S)). StandsDurably stores kind (durable_scene s.shelf now.state.disk now.state.durable) m) (sym quiet.stock)
           stands_now)
 
-      leaves_quiet : IsQuiet now next → (sink : SinkView) (left : Leftover) → StopBehind stores kind (new_with sink) left → LeavesTree left m.now
+      inside_quiet : IsQuiet now next → IsInside (synced_kind stores) shelf' state'.durable.core
+      inside_quiet quiet =
+          subst (λ (s : JournaledState D). IsInside (synced_kind stores) shelf' s.durable.core) (sym quiet.state)
+          (subst (λ (s : Stock (SyncedState S)). IsInside (synced_kind stores) s.shelf now.state.durable.core) (sym quiet.stock) j.going.sound.durable.inside)
+
+      leaves_quiet : IsQuiet now next → (sink : SinkView) (left : Leftover) → StopBehind stores kind (new_with sink) left → LeavesStore left m most
       leaves_quiet quiet sink left behind =
-          durable_leaves stores kind store_laws disk_laws (scene_of next) m (stands_quiet quiet) left (record { shelf = behind.shelf; disk = behind.disk })
+          store_later left m state'.durable.core.tables.next_tx most
+          (let same = ap (λ (s : JournaledState D). s.durable.core.tables.next_tx) quiet.state in let begun = j.going.begun in omega (arith, same, begun))
+          (durable_leaves stores kind store_laws disk_laws (scene_of next) m (stands_quiet quiet) (inside_quiet quiet) left
+          (record { shelf = behind.shelf; disk = behind.disk }))
 
       -- a line was answered, whose text was cut
       leaves_cut : (pass : PassIs (journaled_engine stores kind) now next (Err stop.Unwritten)) (left : Leftover) → StopBehind stores kind (new_with sink') left
-          → LeavesTree left (last j.opening t (longer j.going.log pass.came.line pass.came.cut.answer)).now
+          → LeavesStore left (last j.opening t (longer j.going.log pass.came.line pass.came.cut.answer))
+          (j.opening.next_tx + length (longer j.going.log pass.came.line pass.came.cut.answer).lines + 1)
       leaves_cut pass left behind =
           let cut = pass.came.cut in
           let then = so_far_more (journaled_engine stores kind) laws j.opening start.stock j.going.log (step_of now next) j.going.so_far pass.came.line
@@ -177,16 +193,23 @@ module _ {S D : Type 0} (stores : DiskKind S) (kind : DiskKind D) (store_laws : 
             let most = j.going.number in let more = cut.is.goes_on.number in omega (arith, most, low, more),
             let most = j.going.next_tx in let more = cut.is.goes_on.next_tx in omega (arith, most, few, more),
           ) in
-          durable_leaves stores kind store_laws disk_laws (scene_of next) (last j.opening t (longer j.going.log pass.came.line cut.answer))
-          ((then.stands tells t from).journal ((then.told tells).tells t from).tables.all (on.tells ∙ told_now) top) left
-          (record { shelf = behind.shelf; disk = behind.disk })
+          store_later left (last j.opening t (longer j.going.log pass.came.line cut.answer)) state'.durable.core.tables.next_tx
+          (j.opening.next_tx + length (longer j.going.log pass.came.line cut.answer).lines + 1)
+          (let begun = j.going.begun in let more = cut.is.goes_on.next_tx in let long = length_push j.going.log.lines pass.came.line in
+          omega (arith, begun, more, long))
+          (durable_leaves stores kind store_laws disk_laws (scene_of next) (last j.opening t (longer j.going.log pass.came.line cut.answer))
+          ((then.stands tells t from).journal ((then.told tells).tells t from).tables.all (on.tells ∙ told_now) top) cut.is.goes_on.sound.durable.inside left
+          (record { shelf = behind.shelf; disk = behind.disk }))
 
       -- a line was not answered, or not told of
       leaves_broken : (b : BreaksOff stores kind now next) (left : Leftover) → StopBehind stores kind (new_with sink') left
-          → (final : Tree) × ((final ≡ m.now) ⊎ IsOfNextLine m old.source.rest j.going.log.lines final) × LeavesTree left final
+          → (final : Machine) × ((final ≡ m) ⊎ IsOfNextLine m old.source.rest j.going.log.lines final) × LeavesStore left final most
       leaves_broken b left behind =
-          let (final, which, leaves) = b.survives m small stands_now grow left (record { shelf = behind.shelf; disk = behind.disk }) in
-          (final, ⊎_elim (λ same. inl same) (λ may. inr (record { line = b.line; next = next_line b; may = may })) which, leaves)
+          let (final, which, leaves) = b.survives m small stands_now grow left (record { shelf = behind.shelf; disk = behind.disk }) in (
+            final,
+            ⊎_elim (λ same. inl same) (λ may. inr (record { line = b.line; next = next_line b.line b.came; may = may })) which,
+            store_later left final (now.state.durable.core.tables.next_tx + 1) most (let begun = j.going.begun in omega (arith, begun)) leaves,
+          )
 
     -- ---- the ends
     abbrev Lasts : ℕ → JournaledDevices S D → Log → Type 0
@@ -196,7 +219,7 @@ module _ {S D : Type 0} (stores : DiskKind S) (kind : DiskKind D) (store_laws : 
     IsServed found new log = (served : Served (synced_kind stores) (λ images. ⊤) j.opening found start (blind_devices kind new)) × (served.log ≡ log)
 
     opened_by : (status found : ℕ) → text_status status ≡ found → (new : JournaledDevices S D) (log : Log) → IsServed found new log
-        → (status ≡ 5 → Rose (kind.view j.disk).faults (kind.view new.disk).faults) → Lasts status new log
+        → (status ≡ 5 → FailsAtNext kind j.disk new.disk old.source.rest log.lines) → Lasts status new log
         → IsJournaledRun stores kind asked status old new
     opened_by status found is new log by cause lasts =
         let (served, same) = subst (λ (n : ℕ). IsServed n new log) (sym is) by in
@@ -206,13 +229,13 @@ module _ {S D : Type 0} (stores : DiskKind S) (kind : DiskKind D) (store_laws : 
           opening = j.opening;
           begun = j.begun;
           served = served;
-          cause = cause;
+          cause = λ is_5. subst (λ (l : Log). FailsAtNext kind j.disk new.disk old.source.rest l.lines) (sym same) (cause is_5);
           lasts = subst (λ (l : Log). Lasts status new l) (sym same) lasts;
         })
 
     lasts_quiet : IsQuiet now next → (status : ℕ) (sink : SinkView) → Lasts status (new_with sink) j.going.log
     lasts_quiet quiet status sink = λ tells told low few t from left behind.
-        ((last j.opening t j.going.log).now, inl refl, leaves_quiet tells told low few t from quiet sink left behind)
+        (last j.opening t j.going.log, inl refl, leaves_quiet tells told low few t from quiet sink left behind)
 
     -- the journal failed, or memory was wanted
     lasts_short : PassBreaks stores kind now next → (status : ℕ) → (status ≡ 5) ⊎ (status ≡ 7) → Lasts status (new_with sink') j.going.log
@@ -233,7 +256,7 @@ module _ {S D : Type 0} (stores : DiskKind S) (kind : DiskKind D) (store_laws : 
     -- the run ends before the end of its script
     pub halted : (why : Halt) → PassIs (journaled_engine stores kind) now next (Err (stop_of why))
         → ((why ≡ halt.Stopped stop.Memory) ⊎ (why ≡ halt.Journal) → PassBreaks stores kind now next)
-        → (why ≡ halt.Journal → Rose (kind.view now.state.disk).faults (kind.view state'.disk).faults)
+        → (why ≡ halt.Journal → FailsAt kind now.input input' now.state.disk state'.disk)
         → IsJournaledRun stores kind asked (halt_status why) old (new_with sink')
     halted (halt.Stopped stop.Unread) pass breaks cause =
         opened_by 3 3 refl (new_with sink') j.going.log (stopped_by stop.Unread pass j.going.log
@@ -246,7 +269,7 @@ module _ {S D : Type 0} (stores : DiskKind S) (kind : DiskKind D) (store_laws : 
         (stop_log (journaled_engine stores kind) laws keeps (λ images. ⊤) j.opening start now next bad j.going stop.Unwritten pass))
         (λ e. absurd (omega (arith, e)))
         (λ tells told low few t from left behind.
-        ((last j.opening t (longer j.going.log pass.came.line pass.came.cut.answer)).now, inl refl, leaves_cut tells told low few t from pass left behind))
+        (last j.opening t (longer j.going.log pass.came.line pass.came.cut.answer), inl refl, leaves_cut tells told low few t from pass left behind))
     halted (halt.Stopped stop.TooMuch) pass breaks cause =
         opened_by 9 9 refl (new_with sink') j.going.log (stopped_by stop.TooMuch pass j.going.log
         (stop_log (journaled_engine stores kind) laws keeps (λ images. ⊤) j.opening start now next bad j.going stop.TooMuch pass))
@@ -259,7 +282,8 @@ module _ {S D : Type 0} (stores : DiskKind S) (kind : DiskKind D) (store_laws : 
         (lasts_short (breaks (inl refl)) 7 (inr refl))
     halted halt.Journal pass breaks cause =
         opened_by 5 7 refl (new_with sink') j.going.log (stopped_by stop.Memory pass j.going.log
-        (stop_log (journaled_engine stores kind) laws keeps (λ images. ⊤) j.opening start now next bad j.going stop.Memory pass)) (λ e. rose (cause refl))
+        (stop_log (journaled_engine stores kind) laws keeps (λ images. ⊤) j.opening start now next bad j.going stop.Memory pass))
+        (λ e. let fails = cause refl in record { rose = rose fails.rose; line = fails.line; next = next_line fails.line fails.came })
         (lasts_short (breaks (inr refl)) 5 (inl refl))
 
     -- ---- the end of the script: what the sink held back is brought out, or the sink failed
@@ -298,8 +322,9 @@ module _ {S D : Type 0} (stores : DiskKind S) (kind : DiskKind D) (store_laws : 
   -- ---- A run whose journal was just opened
   module _ (asked : Settings) (old : JournaledDevices S D) (shelf : List (SyncedState S)) (disk : D) (d : DurableView)
       (o : OpensDurable stores kind asked old.disk (durable_scene shelf disk d)) (follows : EachFollows (synced_kind stores) old.shelf shelf [])
-      (goes_on : DiskGoesOn kind old.disk disk) (safe : BeginsSafely stores kind old (on_devices old.source old.sink shelf disk))
-      (sane : (kind.view old.disk).tells ≡ true → (n : ℕ) → IsBadAt held_by None ((kind.view old.disk).file 0).seen n → ⊥) where
+      (goes_on : DiskGoesOn kind old.disk disk) (safe : BeginsSafely stores kind asked old (on_devices old.source old.sink shelf disk))
+      (sane : (kind.view old.disk).tells ≡ true → (n : ℕ) → IsBadAt held_by None ((kind.view old.disk).file 0).seen n → ⊥)
+      (lengths : SameLengths (synced_kind stores) old.shelf shelf) where
     abbrev opening : Opening
     opening = o.opened.opening
 
@@ -312,11 +337,17 @@ module _ {S D : Type 0} (stores : DiskKind S) (kind : DiskKind D) (store_laws : 
     begun : HasBegun stores kind asked old shelf disk opening
     begun = record {
       follows = follows;
+      lengths = lengths;
       goes_on = goes_on;
       safe = safe;
       sane = sane;
       opens = o.opened.opens;
       given = subst (λ (b : List ℕ). IsGivenBy kind old.disk b) (sym o.opened.bytes_are) o.given;
+      records = λ tells. (
+        d.journal.end,
+        subst (λ (b : List ℕ). LeavesRecords kind asked (byte_at (synced_kind stores) shelf) old.disk disk d.journal.end b) (sym o.opened.bytes_are)
+            (o.records tells),
+      );
     }
 
     stands_first : TellsAll (synced_kind stores) shelf → (kind.view old.disk).tells ≡ true → (t : Tree)
@@ -381,11 +412,12 @@ module _ {S D : Type 0} (stores : DiskKind S) (kind : DiskKind D) (store_laws : 
     lasts_first : (status : ℕ) (sink : SinkView) → LastsBehind stores kind old shelf opening status (on_devices old.source sink shelf disk)
         (record { lines = []; answers = [] })
     lasts_first status sink = λ all told low few t from left behind. (
-      (last opening t (record { lines = []; answers = [] })).now,
+      last opening t (record { lines = []; answers = [] }),
       inl refl,
-      subst (λ (x : Machine). LeavesTree left x.now) (sym (none_after after_line (first opening t)))
-          (durable_leaves stores kind store_laws disk_laws (durable_scene shelf disk d) (first opening t) (stands_first all told t from) left
-          (record { shelf = behind.shelf; disk = behind.disk })),
+      subst (λ (x : Machine). LeavesStore left x (opening.next_tx + 0 + 1)) (sym (none_after after_line (first opening t)))
+          (store_later left (first opening t) d.core.tables.next_tx (opening.next_tx + 0 + 1) (let same = o.opened.ready.next_tx in omega (arith, same))
+          (durable_leaves stores kind store_laws disk_laws (durable_scene shelf disk d) (first opening t) (stands_first all told t from)
+          o.opened.ready.sound.inside left (record { shelf = behind.shelf; disk = behind.disk }))),
     )
 
     -- memory was wanted before it, or the sink failed

@@ -26,6 +26,7 @@ use Rattle.wtf_serve.proofs.LineLaws as of_core
 use Rattle.wtf_durable.specs.Promises.{DurableDoes, Lasts, Survives}
 use Rattle.wtf_durable.specs.Views.{DurableScene, blind, core_scene}
 use Rattle.wtf_durable.proofs.Stopping.{durable_leaves}
+use Rattle.wtf_durable.proofs.Trees.{store_later}
 use Rattle.wtf_journaled.specs.Breaks.{SurvivesLine}
 use Rattle.wtf_journaled.specs.Engine.{IsSoundJournaled, JournaledState, StandsJournaled, journaled, journaled_engine}
 
@@ -154,7 +155,8 @@ event_survives stores kind old new e why survives numbers = λ m small stands gr
       let low = grow.0 in let more = numbers.0 in omega (arith, low, more),
       let low = grow.1 in let more = numbers.1 in omega (arith, low, more),
     ) in
-    survives.behind m small stands room left stop
+    let (n, which, leaves) = survives.behind m small stands room left stop in
+    (n, which, store_later left n new.durable.core.tables.next_tx (old.durable.core.tables.next_tx + 1) numbers.1 leaves)
 
 -- ---- a line that was answered
 pub answered_survives : {S D : Type 0} (stores : DiskKind S) (kind : DiskKind D) → DiskLaws stores → DiskLaws kind → (old new : DurableScene S D) (line : Line)
@@ -170,10 +172,11 @@ answered_survives stores kind store_laws disk_laws old new line a goes is = λ m
       let low = grow.0 in let more = is.goes_on.number in omega (arith, low, more),
       let low = grow.1 in let more = is.goes_on.next_tx in omega (arith, low, more),
     ) in (
-      (after_line m line a).now,
+      after_line m line a,
       inr (a, law.may, refl),
-      durable_leaves stores kind store_laws disk_laws new (after_line m line a)
-          (law.stands.journal (is.told stands.shelf m was).next.tables.all (goes.tells ∙ stands.disk) room) left stop,
+      store_later left (after_line m line a) new.durable.core.tables.next_tx (old.durable.core.tables.next_tx + 1) is.goes_on.next_tx
+          (durable_leaves stores kind store_laws disk_laws new (after_line m line a)
+          (law.stands.journal (is.told stands.shelf m was).next.tables.all (goes.tells ∙ stands.disk) room) is.goes_on.sound.durable.inside left stop),
     )
 
 -- ---- a line that asks nothing leaves all as it was

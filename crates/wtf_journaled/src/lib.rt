@@ -5,8 +5,8 @@
 //! journal fails has no answer: the run ends there, with status 5, and the journal is opened again by the next one.
 //!
 //! What a run promises is one record (`specs/Runs`): what `wtf_serve` says of its lines, its answers and its ends,
-//! and which tree a stop leaves then. That is the tree behind the lines that were answered, or behind the line that
-//! ended the run as well, where the stores and the disk tell their content.
+//! and what a stop leaves then: a store that the next run can begin with, where the stores and the disk tell their
+//! content. It has the tree behind the lines that were answered, or behind the line that ended the run as well.
 //!
 //! The loop's proof is that of `wtf_serve`, for the engine of `specs/Engine`: a durable store with its journal's
 //! disk, whose journal stands for the machine as well.

@@ -16,7 +16,7 @@ ghost use Rattle.wtf_serve.specs.declared.service.Stop.TheVariants as stop;
 ghost use Rattle.wtf_durable.specs.declared.fault.DurableFault.TheVariants as fault;
 ghost use Rattle.wtf_durable.specs.Views.{blind, durable_scene};
 ghost use Rattle.wtf_journaled.specs.declared.halt.Halt.TheVariants as halt;
-ghost use Rattle.wtf_journaled.specs.Breaks.{PassBreaks, SurvivesLine, stopped};
+ghost use Rattle.wtf_journaled.specs.Breaks.{FailsAt, PassBreaks, SurvivesLine, stopped};
 ghost use Rattle.wtf_journaled.specs.Engine.{IsSoundJournaled, journaled, journaled_engine};
 
 use crate::Halt;
@@ -150,7 +150,8 @@ pub(crate) fn pass<I: Source, O: Sink, S: Disk, D: Disk>(
         (stock shelf.new (blind (D.kind.view disk.new))) (journaled durable.new disk.new)) }
     ensures goes_on { DiskGoesOn D.kind disk.old disk.new }
     ensures cause { IsErrOf result halt.Journal →
-        Rose (D.kind.view disk.old).faults (D.kind.view disk.new).faults }
+        FailsAt D.kind (input (I.view script.old) reader.old.lines)
+        (input (I.view script.new) reader.new.lines) disk.old disk.new }
 {
     let line = match read_line(reader, script) {
         Ok(Some(line)) => line,

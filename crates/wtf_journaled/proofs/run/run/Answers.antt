@@ -22,7 +22,7 @@ returns-in_default g c =
     let start = on_devices (g.I.Source.view c.args.script.now) (g.O.Sink.view c.args.out.now) c.args.shelf.now c.args.disk.now in
     record {
       ran = short_first g.S.Disk.kind g.D.Disk.kind g.met.S.Disk.laws g.met.D.Disk.laws c.args.settings start c.open.new.shelf c.open.new.disk c.in-Ok.durable
-          c.in-Ok.ensures.opened c.open.ensures.follows c.open.ensures.goes_on c.open.ensures.any_moment c.in-Ok.ensures.exact;
+          c.in-Ok.ensures.opened c.open.ensures.follows c.open.ensures.goes_on c.open.ensures.any_moment c.in-Ok.ensures.exact c.open.ensures.lengths;
     }
 
 pub returns-in_default-push_settings : goal.returns-in_default-push_settings
@@ -30,7 +30,7 @@ returns-in_default-push_settings g c =
     let start = on_devices (g.I.Source.view c.args.script.now) (g.O.Sink.view c.args.out.now) c.args.shelf.now c.args.disk.now in
     record {
       ran = short_first g.S.Disk.kind g.D.Disk.kind g.met.S.Disk.laws g.met.D.Disk.laws c.args.settings start c.open.new.shelf c.open.new.disk c.in-Ok.durable
-          c.in-Ok.ensures.opened c.open.ensures.follows c.open.ensures.goes_on c.open.ensures.any_moment c.in-Ok.ensures.exact;
+          c.in-Ok.ensures.opened c.open.ensures.follows c.open.ensures.goes_on c.open.ensures.any_moment c.in-Ok.ensures.exact c.open.ensures.lengths;
     }
 
 pub returns-in_default-write_all : goal.returns-in_default-write_all
@@ -40,6 +40,7 @@ returns-in_default-write_all g c =
     record {
       ran = unwritten_first g.S.Disk.kind g.D.Disk.kind g.met.S.Disk.laws g.met.D.Disk.laws c.args.settings start c.open.new.shelf c.open.new.disk
           c.in-Ok.durable c.in-Ok.ensures.opened c.open.ensures.follows c.open.ensures.goes_on c.open.ensures.any_moment c.in-Ok.ensures.exact
+          c.open.ensures.lengths
           (g.O.Sink.view c.write_all.new.out) c.as_slice.result.now (first_text g at) c.in_default-write_all.ensures.told
           c.in_default-write_all.ensures.cause c.write_all.ensures.faults;
     }
@@ -56,6 +57,7 @@ loop-more-init g c =
           (journaled c.in-Ok.durable c.open.new.disk)) false) (sym c.in-Ok-new.ensures)
           (journaling_first stores kind g.met.S.Disk.laws g.met.D.Disk.laws c.args.settings start c.open.new.shelf c.open.new.disk c.in-Ok.durable
           c.in-Ok.ensures.opened c.open.ensures.follows c.open.ensures.goes_on c.open.ensures.any_moment c.in-Ok.ensures.exact
+          c.open.ensures.lengths
           (g.O.Sink.view c.write_all.new.out) c.as_slice.result.now (first_text g at) c.in-Ok-write_all.ensures.told c.in-Ok-write_all.ensures.steady);
     }
 
