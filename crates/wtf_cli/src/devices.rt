@@ -9,7 +9,7 @@ use std::fs::File;
 use wtf_base::OutOfMemory;
 use wtf_dev::{MemDisk, MemKeeper, MemStore, Shelf};
 use wtf_journal::Synced;
-use wtf_real::{DirDisk, DirStore, FileKeeper, FolderLock, OpenFault};
+use wtf_real::{DirDisk, DirStore, FileKeeper, FolderLock, OpenFault, StandIns};
 
 /// How many stores there are.
 const STORES: u8 = 16;
@@ -43,7 +43,7 @@ pub(crate) fn in_memory(alloc: Global) -> Result<Opened<MemStore, MemKeeper>, Op
 }
 
 /// The stores and the image in a folder that is held: store K is that of server K.
-pub(crate) fn in_folder(
+fn in_folder(
     rt: &HostRuntime,
     lock: &FolderLock<File>,
 ) -> Result<Opened<DirStore<File>, FileKeeper<HostRuntime>>, OpenFault>
@@ -55,6 +55,26 @@ pub(crate) fn in_folder(
         shelf: Shelf::new(rt.alloc(), stores),
         keeper,
     })
+}
+
+/// The same in the folder that a word names, with the lock by which that folder is held.
+pub(crate) fn opened_at(
+    rt: &HostRuntime,
+    standing: &StandIns<File>,
+    dir: &str,
+) -> Result<
+    (
+        Opened<DirStore<File>, FileKeeper<HostRuntime>>,
+        FolderLock<File>,
+    ),
+    OpenFault,
+>
+    ensures shelf { IfOk result (λ held. folders held.0.shelf ≡ folders_of dir.now 16) }
+    ensures lock { IfOk result (λ held. held.1.dir ≡ dir.now) }
+{
+    let lock = FolderLock::open(rt, standing, dir)?;
+    let opened = in_folder(rt, &lock)?;
+    Ok((opened, lock))
 }
 
 /// Empty stores, which fail only for want of memory.
@@ -101,7 +121,7 @@ pub(crate) fn journaled_in_memory(alloc: Global) -> Result<Journaled<MemDisk, Me
 
 /// Stores over the disks in a folder that is held, and the disk of the journal there: the store of server K is over the disk in `sK`, and
 /// that of the journal is in `journal`.
-pub(crate) fn journaled_in_folder(
+fn journaled_in_folder(
     rt: &HostRuntime,
     lock: &FolderLock<File>,
 ) -> Result<Journaled<DirDisk<File>, DirDisk<File>>, OpenFault>
@@ -114,6 +134,21 @@ pub(crate) fn journaled_in_folder(
         shelf: Shelf::new(rt.alloc(), stores),
         disk,
     })
+}
+
+/// The same in the folder that a word names, with the lock by which that folder is held.
+pub(crate) fn journaled_at(
+    rt: &HostRuntime,
+    standing: &StandIns<File>,
+    dir: &str,
+) -> Result<(Journaled<DirDisk<File>, DirDisk<File>>, FolderLock<File>), OpenFault>
+    ensures shelf { IfOk result (λ held. disk_folders held.0.shelf ≡ folders_of dir.now 16) }
+    ensures disk { IfOk result (λ held. held.0.disk.folder ≡ dir.now ++ codes "/journal") }
+    ensures lock { IfOk result (λ held. held.1.dir ≡ dir.now) }
+{
+    let lock = FolderLock::open(rt, standing, dir)?;
+    let opened = journaled_in_folder(rt, &lock)?;
+    Ok((opened, lock))
 }
 
 /// Stores over empty disks, which fail only for want of memory.

@@ -1,7 +1,7 @@
 //! The program.
 #![tactic(auto)]
 
-ghost use Rattle.std.specs.Prelude.{◌≡◌, drop, map, string_bytes, IfErr, OnOk};
+ghost use Rattle.std.specs.Prelude.{◌≡◌, drop, map, string_bytes, IfErr, IfOk, IfSome, IsOkAnd, IsSomeAnd, IsUtf8, OnOk};
 ghost use Rattle.std.specs.Process.{exit_status};
 ghost use Rattle.std.specs.Io.KnownBytes.{Appends};
 ghost use Rattle.wtf_serve.specs.Endings.{devices};
@@ -13,10 +13,10 @@ mod journaled;
 mod second_word;
 mod status;
 
-use crate::devices::{Opened, in_folder, in_memory, journaled_in_folder, journaled_in_memory};
+use crate::devices::{Opened, in_memory, journaled_at, journaled_in_memory, opened_at};
 use crate::first_word::{First, USAGE, VERSION, first_of};
 use crate::journaled::run_journaled;
-use crate::second_word::{JOURNAL_BYTES, is_journal};
+use crate::second_word::{JOURNAL_BYTES, Second, asks_journal, is_none, second_of};
 use crate::status::{NO_DIRECTORY, line_of, open_status};
 use std::alloc::Global;
 use std::env::{self, Env, FillError};
@@ -24,7 +24,7 @@ use std::fs::File;
 use std::io::{self, Write};
 use std::process::ExitCode;
 use wtf_dev::{Keeper, Shelf, Sink, SliceStore, Source};
-use wtf_real::{FolderLock, OpenFault, StandIns, streams};
+use wtf_real::{OpenFault, StandIns, streams};
 use wtf_serve::{FINISHED, OUT_OF_MEMORY, WORDS_REFUSED, WRITING_FAILED, wtf};
 
 /// The greatest length of a path, in bytes: the system opens no longer one.
@@ -71,40 +71,44 @@ fn status_of(rt: &HostRuntime) -> u8
         Err(fault) => return open_status(fault),
     };
     let mut bytes = [0u8; PATH_BYTES];
-    let Some(word) = word_given(rt, &mut bytes) else {
+    let Some(word) = text_of(word_given(rt, 1, &mut bytes)) else {
         return NO_DIRECTORY;
     };
-    match first_of(word, is_alone(rt)) {
-        First::Folder => return run_in(rt, &standing, word),
-        First::Memory => return run_in_memory(rt),
+    let mut behind = [0u8; JOURNAL_BYTES];
+    let second = second_of(word_given(rt, 2, &mut behind));
+    match first_of(word, is_none(second)) {
+        First::Folder => return run_in(rt, &standing, word, second),
+        First::Memory => return run_in_memory(rt, second),
         First::Help => return show(rt, USAGE),
         First::Version => return show(rt, VERSION),
         First::NoFolder => return NO_DIRECTORY,
     }
 }
 
-/// The word behind the program's name, where there is one that is text. The words behind it may be none.
-fn word_given<'a>(rt: &HostRuntime, bytes: &'a mut [u8]) -> Option<&'a str> {
-    let Ok(n) = rt.arg(1, bytes) else {
-        return None;
-    };
-    match str::from_utf8(&bytes[..n]) {
-        Ok(word) => Some(word),
-        Err(_) => None,
+/// The word at a place behind the program's name, which is place 0, where it fits. No contract says which words the system
+/// gives; what they ask for is said of what this answers.
+fn word_given<'a>(
+    rt: &HostRuntime,
+    place: usize,
+    bytes: &'a mut [u8],
+) -> Result<&'a [u8], FillError> {
+    match rt.arg(place, bytes) {
+        Ok(n) => Ok(&bytes[..n]),
+        Err(why) => Err(why),
     }
 }
 
-/// Whether there is no second word.
-fn is_alone(rt: &HostRuntime) -> bool {
-    matches!(rt.arg(2, &mut []), Err(FillError::NotPresent))
-}
-
-/// Whether the second word asks for a journal.
-fn is_journaled(rt: &HostRuntime) -> bool {
-    let mut bytes = [0u8; JOURNAL_BYTES];
-    match rt.arg(2, &mut bytes) {
-        Ok(n) => is_journal(&bytes[..n]),
-        Err(_) => false,
+/// A word that was given, where it is text.
+fn text_of<'a>(given: Result<&'a [u8], FillError>) -> Option<&'a str>
+    ensures text { IfOk given.entry (λ word. IsUtf8 word.now → IsSomeAnd result (λ text. text.now ≡ word.now)) }
+    ensures other { IfSome result (λ text. IsOkAnd given.entry (λ word. text.now ≡ word.now)) }
+{
+    let Ok(word) = given else {
+        return None;
+    };
+    match str::from_utf8(word) {
+        Ok(text) => Some(text),
+        Err(_) => None,
     }
 }
 
@@ -119,27 +123,32 @@ fn show(rt: &HostRuntime, text: &str) -> u8
 }
 
 /// Runs the script over the folder of a store, and holds the folder until the run is over.
-fn run_in(rt: &HostRuntime, standing: &StandIns<File>, dir: &str) -> u8
+fn run_in(rt: &HostRuntime, standing: &StandIns<File>, dir: &str, second: Second) -> u8
     ensures { IsProgramStatus result }
 {
-    let lock = match FolderLock::open(rt, standing, dir) {
-        Ok(lock) => lock,
+    if asks_journal(second) {
+        let (opened, lock) = match journaled_at(rt, standing, dir) {
+            Ok(held) => held,
+            Err(fault) => return open_status(fault),
+        };
+        let status = run_journaled(rt, Ok(opened));
+        drop(lock);
+        return status;
+    }
+    let (opened, lock) = match opened_at(rt, standing, dir) {
+        Ok(held) => held,
         Err(fault) => return open_status(fault),
     };
-    let status = if is_journaled(rt) {
-        run_journaled(rt, journaled_in_folder(rt, &lock))
-    } else {
-        run(rt, in_folder(rt, &lock))
-    };
+    let status = run(rt, Ok(opened));
     drop(lock);
     status
 }
 
 /// Runs the script over devices in memory.
-fn run_in_memory(rt: &HostRuntime) -> u8
+fn run_in_memory(rt: &HostRuntime, second: Second) -> u8
     ensures { IsProgramStatus result }
 {
-    if is_journaled(rt) {
+    if asks_journal(second) {
         return run_journaled(rt, journaled_in_memory(rt.alloc()));
     }
     run(rt, in_memory(rt.alloc()))
