@@ -3,7 +3,7 @@ use Rattle.std.proofs.Common.{◌≡◌, ◌≢◌, ◌⊎◌, ◌↔◌, ℕ, �
 use Rattle.std.specs.Prelude.{◌==◌, ◌&&◌, slice_get}
 use Rattle.std.specs.List.{All, Contains}
 use Rattle.std.proofs.lemmas.Bool.{cases_eq, eq-eqb, ne_eqb}
-use Rattle.std.proofs.lemmas.List.{get_or-map, length-map, take_more, take_all}
+use Rattle.std.proofs.lemmas.List.{get_or-map, get_or-take, length-map, length-take, take_more, take_all}
 use Rattle.std.proofs.lemmas.Bool.Decides.{Decides-eqb}
 use Rattle.std.proofs.lemmas.Option.{get_or_from_slice_get}
 use Rattle.std.proofs.lemmas.Map.Made.{AllPairs-from_IsDistinct}
@@ -19,12 +19,12 @@ use Rattle.wtf_ring.specs.Points.{PlaceView}
 use Rattle.wtf_ring.specs.Orders.{IsOrder}
 use Rattle.wtf_replica.specs.Spans.{Span, span}
 use Rattle.wtf_replica.specs.Outs.{HasRisen, IsOut, IsLeftDown, LeavesOut, SameSyncs}
-use Rattle.wtf_replica.specs.Copies.{bytes_in, IsNewCopy, IsCopyInside, IsStored}
+use Rattle.wtf_replica.specs.Copies.{bytes_in, IsNewCopy, IsCopyInside, IsStored, GrowsOnce}
 use Rattle.wtf_replica.specs.Faults.{AreTooFew}
 use Rattle.wtf_replica.specs.Placed.{placed}
 use Rattle.wtf_dev.proofs.Each.{each_same, each_on}
 use Rattle.wtf_replica.proofs.Spans.{each_kept, lows_on, out_on, out_since, risen_on, risen_since, same_syncs_on}
-use Rattle.wtf_replica.proofs.Writing.{is_fresh, leaves_or_out, IsLow, len_of_first, leaves_weaker, leaves_skip, leaves_take, leaves_member, length-placed, All-placed, servers, placed_cases, placed_has, bytes_in-placed, Ascends, ascends_placed}
+use Rattle.wtf_replica.proofs.Writing.{is_fresh, leaves_or_out, IsLow, len_of_first, leaves_weaker, leaves_skip, leaves_take, leaves_member, length-placed, All-placed, servers, placed_cases, placed_has, bytes_in-placed, Ascends, ascends_placed, once_in}
 
 one_more : (n m k : ℕ) → m ≡ n + 1 → m * k ≡ n * k + k
 one_more n m k e = ap (λ (x : ℕ). x * k) e ∙ grind arith
@@ -321,6 +321,26 @@ inside_by {kind = kind} {t = t} {ps = ps} file was = λ j d h.
       omega (arith, c.file, file),
       λ x. subst (λ (f : ℕ). p.at + p.len ≤ (kind.view (get_or t.after p.server.0 x)).size f) (sym c.file) (omega (arith, c.size x, c.len)),
     )
+
+-- each store grew by nothing or by these bytes, in the file of the place
+pub grown_by : {S : Type 0} {kind : StoreKind S} {t : Span S} {place : PlaceView} {i : ℕ} {bytes : List ℕ} {found : List Pointer}
+    → Going kind t place i bytes found → GrowsOnce kind t place (length bytes)
+grown_by {kind = kind} {t = t} {place = place} {i = i} {bytes = bytes} {found = found} was = record {
+  others = was.others;
+  beside = λ k d none. was.untouched k d (λ c. none (taken k c));
+  once = λ k d h. elim (was.grew k place.file d h) [
+    | inl r ↦ inl r
+    | inr e ↦ inr (elim (once_in (length bytes) k place.file found was.ascends (λ j x below. (was.copies j x below).len)) [
+      | inl none ↦ inl (omega (arith, e, none))
+      | inr one ↦ inr (e ∙ ap (λ (n : ℕ). (kind.view (get_or t.before k d)).size place.file + n) one)
+    ])
+  ];
+}
+  where
+    taken : (k : ℕ) → Contains (take i place.servers) k → Contains place.servers k
+    taken k c =
+        let here : c.0 < i = omega (arith, c.1, length-take i place.servers) in
+        (c.0, omega (arith, c.1, length-take i place.servers), sym (get_or-take i place.servers c.0 k here) ∙ c.2)
 
 -- all servers were tried, and too few took a copy
 pub too_few : {S : Type 0} {kind : StoreKind S} {t : Span S} {place : PlaceView} {i : ℕ} {bytes : List ℕ} {found : List Pointer} (n replicas : ℕ)

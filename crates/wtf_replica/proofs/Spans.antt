@@ -1,5 +1,5 @@
 -- What the loops of `create`, `fetch`, `sync_all` and `sync_up` keep of the stores over the parts of a span in which nothing is punched.
-use Rattle.std.proofs.Common.{◌≡◌, ◌≢◌, ℕ, ◌<◌, ◌≤◌, Bool, true, false, List, [], length, get_or, sym, ◌∙◌, ap, subst, arith, inl, inr}
+use Rattle.std.proofs.Common.{◌≡◌, ◌≢◌, ℕ, ◌+◌, ◌<◌, ◌≤◌, Bool, true, false, List, [], length, get_or, take, sym, ◌∙◌, ap, subst, arith, inl, inr}
 use Rattle.std.proofs.lemmas.Bool.{cases_eq, false≢true}
 use Rattle.std.proofs.lemmas.List.Elements.{All-weaker}
 use Rattle.wtf_base.specs.declared.pointer.Pointer.{Pointer}
@@ -10,6 +10,7 @@ use Rattle.wtf_dev.specs.Each.{EachFollows}
 use Rattle.wtf_replica.specs.Spans.{span}
 use Rattle.wtf_dev.specs.Sums.{all_stored, stored_bytes}
 use Rattle.wtf_dev.proofs.Sums.{sum_grows, stored-same}
+use Rattle.wtf_replica.specs.Copies.{IsFetched}
 use Rattle.wtf_replica.specs.Outs.{HasRisen, IsOut, IsLeftDown, SameLengths, SameSyncs}
 use Rattle.wtf_replica.specs.Faults.{AreAllOut}
 
@@ -78,6 +79,37 @@ all_out_since kind down old mid new same kept s k a = record {
       (λ p. out_since kind down old mid new same kept p.server.0) (pointers_of s) a.out;
   last = a.last;
 }
+
+-- what was read of a slice in a part of a span was read in the whole
+pub fetched_on : {S : Type 0} (kind : StoreKind S) (down : ℕ → Bool) (old mid new : List S) → length mid ≡ length old → EachKept kind mid new
+    → (s : Slice) (off : ℕ) (out : List ℕ) (k : ℕ) → IsFetched kind (span down old mid) s off out k → IsFetched kind (span down old new) s off out k
+fetched_on kind down old mid new same kept s off out k f = record {
+  copy = f.copy;
+  pointer = f.pointer;
+  is_copy = f.is_copy;
+  server = f.server;
+  known = f.known;
+  up = f.up;
+  bytes = f.bytes;
+  earlier = All-weaker (λ (q : Pointer). IsOut kind (span down old mid) q.server.0) (λ (q : Pointer). IsOut kind (span down old new) q.server.0)
+      (λ q. out_on kind down old mid new same kept q.server.0) (take f.copy (pointers_of s)) f.earlier;
+}
+
+pub fetched_since : {S : Type 0} (kind : StoreKind S) (down : ℕ → Bool) (old mid new : List S) → length mid ≡ length old → EachKept kind old mid
+    → (s : Slice) (off : ℕ) (out : List ℕ) (k : ℕ) → IsFetched kind (span down mid new) s off out k → IsFetched kind (span down old new) s off out k
+fetched_since kind down old mid new same kept s off out k f =
+    let below : k < length old = omega (arith, f.known, same) in
+    record {
+      copy = f.copy;
+      pointer = f.pointer;
+      is_copy = f.is_copy;
+      server = f.server;
+      known = below;
+      up = f.up;
+      bytes = λ d j b h shown. f.bytes d j b h ((kept k d below).shown f.pointer.file (f.pointer.at + off + j) b tt shown);
+      earlier = All-weaker (λ (q : Pointer). IsOut kind (span down mid new) q.server.0) (λ (q : Pointer). IsOut kind (span down old new) q.server.0)
+          (λ q. out_since kind down old mid new same kept q.server.0) (take f.copy (pointers_of s)) f.earlier;
+    }
 
 -- stores whose files are as long as they were hold as much together
 pub same_lengths-stored : {S : Type 0} (kind : StoreKind S) (old new : List S) → length new ≡ length old → SameLengths kind old new → all_stored kind new ≡ all_stored kind old

@@ -1,11 +1,11 @@
 -- Lists of servers and of pointers, as `create` makes them.
-use Rattle.std.proofs.Common.{◌≡◌, ◌≢◌, ◌⊎◌, ℕ, suc, ◌+◌, ◌<◌, ◌≤◌, ◌^◌, true, false, cond, List, [], ◌∷◌, ◌++◌, length, take, map, get_or, refl, sym, ◌∙◌, subst, arith, inl, inr}
+use Rattle.std.proofs.Common.{◌≡◌, ◌≢◌, ◌⊎◌, ℕ, suc, ◌+◌, ◌<◌, ◌≤◌, ◌^◌, true, false, cond, List, [], ◌∷◌, ◌++◌, length, take, map, get_or, refl, sym, ◌∙◌, ap, subst, arith, inl, inr}
 use Rattle.std.specs.Prelude.{◌==◌, ◌&&◌, nat_lt, IsTrue}
 use Rattle.std.specs.List.{All, AllPairs, Contains}
-use Rattle.std.proofs.lemmas.Bool.{cases_lt, lt-ltb, le-ltb}
+use Rattle.std.proofs.lemmas.Bool.{cases_eq, cases_lt, eq-eqb, lt-ltb, le-ltb, ne_eqb}
 use Rattle.std.proofs.lemmas.Bool.Decides.{nat_tests}
 use Rattle.std.proofs.lemmas.List.{get_or_default, get_or-take, length-take}
-use Rattle.std.proofs.lemmas.List.Elements.{All-cons}
+use Rattle.std.proofs.lemmas.List.Elements.{All-cons, All-tail}
 use Rattle.wtf_base.specs.declared.pointer.Pointer.{Pointer}
 use Rattle.wtf_base.specs.declared.slice.Slice.{Slice}
 use Rattle.wtf_base.specs.declared.slice.Extents.{Extents}
@@ -170,6 +170,37 @@ ascends_placed p (q ∷ ps) new a = elim (cases_lt p.server.0 q.server.0) [
       subst (λ b. Ascends (cond b (p ∷ q ∷ ps) (q ∷ placed p ps))) (sym (le-ltb p.server.0 q.server.0 ge))
       (above_placed q.server.0 p ps gt a.0, ascends_placed p ps (λ c. new (in_tail q.server.0 (servers ps) p.server.0 c)) a.1)
 ]
+
+-- of copies of n bytes on servers that ascend no two lie in one file of a server
+none_above : (j k f : ℕ) (ps : List Pointer) → k ≤ j → Above j ps → bytes_in ps k f ≡ 0
+none_above j k f [] low a = refl
+none_above j k f (p ∷ ps) low a =
+    let own : cond (p.server.0 == k && p.file == f) p.len 0 ≡ 0 =
+    ap (λ b. cond (b && p.file == f) p.len 0) (ne_eqb p.server.0 k (λ e. omega (arith, e, low, a.0))) in
+    omega (arith, own, none_above j k f ps low a.1)
+
+pub once_in : (n k f : ℕ) (ps : List Pointer) → Ascends ps → All (λ (p : Pointer). p.len ≡ n) ps → (bytes_in ps k f ≡ 0) ⊎ (bytes_in ps k f ≡ n)
+once_in n k f [] a all = inl refl
+once_in n k f (p ∷ ps) a all =
+    let len : p.len ≡ n = all 0 p (omega arith) in
+    let rest : (bytes_in ps k f ≡ 0) ⊎ (bytes_in ps k f ≡ n) = once_in n k f ps a.1 (All-tail (λ (q : Pointer). q.len ≡ n) p ps all) in
+    elim (cases_eq p.server.0 k) [
+      | inl here ↦
+          let none : bytes_in ps k f ≡ 0 = none_above p.server.0 k f ps (omega (arith, here)) a.0 in
+          let own : cond (p.server.0 == k && p.file == f) p.len 0 ≡ cond (p.file == f) p.len 0 =
+          ap (λ b. cond (b && p.file == f) p.len 0) (eq-eqb p.server.0 k here) in
+          elim (cases_eq p.file f) [
+            | inl is ↦
+                let one : cond (p.file == f) p.len 0 ≡ p.len = ap (λ b. cond b p.len 0) (eq-eqb p.file f is) in
+                inr (omega (arith, own, one, none, len))
+            | inr ne ↦
+                let no : cond (p.file == f) p.len 0 ≡ 0 = ap (λ b. cond b p.len 0) (ne_eqb p.file f ne) in
+                inl (omega (arith, own, no, none))
+          ]
+      | inr ne ↦
+          let own : cond (p.server.0 == k && p.file == f) p.len 0 ≡ 0 = ap (λ b. cond (b && p.file == f) p.len 0) (ne_eqb p.server.0 k ne) in
+          elim rest [ inl none ↦ inl (omega (arith, own, none)) | inr one ↦ inr (omega (arith, own, one)) ]
+    ]
 
 -- a pointer to n bytes that ends below 2^61
 pub record IsLow (n : ℕ) (p : Pointer) : Type 0 where

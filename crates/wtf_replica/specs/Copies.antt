@@ -8,7 +8,7 @@ use Rattle.wtf_dev.specs.Store.{StoreKind, Holds, Agrees}
 use Rattle.wtf_dev.specs.Sums.{all_stored}
 use Rattle.wtf_ring.specs.Points.{PlaceView}
 use Rattle.wtf_replica.specs.Spans.{Span}
-use Rattle.wtf_replica.specs.Outs.{HasRisen, IsOut, LeavesOut}
+use Rattle.wtf_replica.specs.Outs.{HasRisen, IsOut, LeavesOut, OtherFilesStay}
 
 -- a copy lies inside its store: in one of the eight files of a server that is there
 abbrev pub IsCopyInside : {S : Type 0} → StoreKind S → List S → Pointer → Type 0
@@ -70,6 +70,15 @@ pub record IsStored {S : Type 0} (kind : StoreKind S) (t : Span S) (replicas : �
       ⊎ ((kind.view (slice_index_or t.after k d)).size f ≡ (kind.view (slice_index_or t.before k d)).size f + bytes_in (pointers_of s) k f)
   -- where none failed the stores together grew by the bytes of the copies
   pub total : ((k : ℕ) → HasRisen kind t.before t.after k → ⊥) → all_stored kind t.after ≡ all_stored kind t.before + replicas * length bytes
+
+-- No file of a store grew but that of a place, and only on servers that the place names: on each of them that did not fail by nothing,
+-- or by n bytes.
+pub record GrowsOnce {S : Type 0} (kind : StoreKind S) (t : Span S) (place : PlaceView) (n : ℕ) : Type 0 where
+  pub others : OtherFilesStay kind t.before t.after place.file
+  pub beside : (k : ℕ) (d : S) → (Contains place.servers k → ⊥) → slice_index_or t.after k d ≡ slice_index_or t.before k d
+  pub once : (k : ℕ) (d : S) → k < length t.before → HasRisen kind t.before t.after k
+      ⊎ (((kind.view (slice_index_or t.after k d)).size place.file ≡ (kind.view (slice_index_or t.before k d)).size place.file)
+      ⊎ ((kind.view (slice_index_or t.after k d)).size place.file ≡ (kind.view (slice_index_or t.before k d)).size place.file + n))
 
 -- The bytes of a slice from offset off on were read from its copy on server k: each byte that is told there is the one in
 -- `out`. The server is up, and the servers of the copies before it are out.

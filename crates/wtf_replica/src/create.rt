@@ -7,9 +7,9 @@ ghost use Rattle.wtf_base.specs.Slices.{pointers_of};
 ghost use Rattle.wtf_dev.specs.Each.{EachFollows};
 ghost use Rattle.wtf_dev.specs.Sums.{TellsAll, all_stored};
 ghost use Rattle.wtf_replica.specs.Downs.{settings_of, is_down, during};
-ghost use Rattle.wtf_replica.specs.Outs.{IsLeftDown, IsOut, OtherFilesStay, SameSyncs};
+ghost use Rattle.wtf_replica.specs.Outs.{IsLeftDown, IsOut, SameSyncs};
 ghost use Rattle.wtf_replica.specs.Bytes.{byte_at, HoldsSlice};
-ghost use Rattle.wtf_replica.specs.Copies.{IsStored, IsInside, IsNewCopy};
+ghost use Rattle.wtf_replica.specs.Copies.{IsStored, IsInside, IsNewCopy, GrowsOnce};
 ghost use Rattle.wtf_replica.specs.Faults.{IsWriteFault};
 ghost use Rattle.wtf_replica.specs.Placed.{placed};
 
@@ -50,8 +50,8 @@ impl Default for Made {
 
 impl Replicas {
     /// Stores bytes as a slice, with one copy on each of as many servers as there are replicas: the first ones of the
-    /// place that are up and do not fail. `Write` where there are fewer of them: the place's file may then be longer on
-    /// some servers, and what it held it still holds. Nothing is done to a server that is down.
+    /// place that are up and do not fail. `Write` where there are fewer of them: the place's file may then be longer by
+    /// these bytes on some servers, and what it held it still holds. Nothing is done to a server that is down.
     pub fn create<S: SliceStore>(
         &self,
         shelf: &mut Shelf<S>,
@@ -71,7 +71,7 @@ impl Replicas {
         ensures fault { IfErr result
             (IsWriteFault S.kind (during self.now shelf.old shelf.new) (settings_of self.now)) }
         ensures down { IsLeftDown (during self.now shelf.old shelf.new) }
-        ensures others { OtherFilesStay S.kind shelf.old shelf.new place.now.file }
+        ensures grows { GrowsOnce S.kind (during self.now shelf.old shelf.new) place.now (length bytes.now) }
         ensures syncs { SameSyncs S.kind shelf.old shelf.new }
         ensures follows { EachFollows S.kind shelf.old shelf.new [] }
     {

@@ -7,7 +7,7 @@ use Rattle.wtf_replica.specs.Faults.{AreTooFew}
 use Rattle.wtf_replica.specs.Copies.{IsStored}
 use Rattle.wtf_replica.proofs.Bytes.{stored_bytes}
 use Rattle.wtf_replica.proofs.Writing.{is_slice_of, length-placed}
-use Rattle.wtf_replica.proofs.Going.{Going, going_none, going_skip, going_take, on_shelf, low_copies, stored_by, inside_by, too_few}
+use Rattle.wtf_replica.proofs.Going.{Going, going_none, going_skip, going_take, grown_by, on_shelf, low_copies, stored_by, inside_by, too_few}
 use Rattle.wtf_replica.proofs.replicas.Replicas.create.Goals as goal
 use Rattle.wtf_replica.proofs.replicas.Replicas.create.Goals.{in-None, in-Some+else-len-self}
 
@@ -63,8 +63,8 @@ returns-then-len-self-clause-follows g c = (made g c).each
 pub returns-then-len-self-clause-down : goal.returns-then-len-self-clause-down
 returns-then-len-self-clause-down g c = (made g c).lows
 
-pub returns-then-len-self-clause-others : goal.returns-then-len-self-clause-others
-returns-then-len-self-clause-others g c = (made g c).others
+pub returns-then-len-self-clause-grows : goal.returns-then-len-self-clause-grows
+returns-then-len-self-clause-grows g c = grown_by (made g c)
 
 pub loop-i-preserved : goal.loop-i-preserved
 loop-i-preserved g c = elim c.match-try_copy.branch [
@@ -88,3 +88,6 @@ returns-clause-fault g c =
     let n : c.count-i-end.result ≡ c.args.self.now.settings.servers = c.count-i-end.ensures.value ∙ c.requires.place in
     subst (λ (m : ℕ). AreTooFew g.S.SliceStore.kind (span (is_down c.args.self.now) c.args.shelf.now c.loop-i.shelf) m c.args.self.now.settings.replicas) n
     (too_few c.count-i-end.result c.args.self.now.settings.replicas c.count-i-end.ensures.order c.loop-i-test.false c.loop-i.invariant.going c.loop-i.invariant.few)
+
+pub returns-clause-grows : goal.returns-clause-grows
+returns-clause-grows g c = grown_by c.loop-i.invariant.going
