@@ -1,6 +1,6 @@
 -- Laws of bytes that lie inside the stores: they stay there, their slices can be read, and what is stored lies there.
-use Rattle.std.proofs.Common.{◌≡◌, ℕ, ◌+◌, ◌<◌, ◌≤◌, ◌&&◌, Bool, true, false, nat_lt, List, [], ◌∷◌, length, get_or, take, map, Option, Some, refl, sym, ap}
-use Rattle.std.proofs.Common.{◌∙◌, subst, arith, inl, inr, zero, suc}
+use Rattle.std.proofs.Common.{◌≡◌, ◌≢◌, ℕ, ◌+◌, ◌<◌, ◌≤◌, ◌&&◌, Bool, true, false, nat_lt, List, [], ◌∷◌, length, get_or, take, map, Option, Some, refl, sym}
+use Rattle.std.proofs.Common.{ap, ◌∙◌, subst, arith, inl, inr, zero, suc}
 use Rattle.std.specs.Prelude.{slice_get}
 use Rattle.std.specs.List.{All, Contains, list_all}
 use Rattle.std.proofs.lemmas.Bool.{and_parts, and_from, ltb-true, lt-ltb}
@@ -22,16 +22,19 @@ use Rattle.wtf_overlay.specs.declared.part.Piece.{Piece}
 use Rattle.wtf_overlay.specs.Lengths.{HasLength}
 use Rattle.wtf_overlay.specs.Origin.{Place}
 use Rattle.wtf_replica.specs.Bytes.{IsPlaceInside}
-use Rattle.wtf_replica.specs.Copies.{IsInside, IsStored, servers_of}
-use Rattle.wtf_replica.specs.Outs.{LeavesOut}
+use Rattle.wtf_replica.specs.Copies.{IsInside, IsReadable, IsStored, SameBeside, servers_of}
+use Rattle.wtf_replica.specs.Outs.{LeavesOut, SameFrom}
 use Rattle.wtf_replica.specs.Spans.{Span}
 use Rattle.wtf_replica.proofs.Bytes.{inside_places, place_inside_stays, places_inside}
+use Rattle.wtf_ring.specs.Orders.{IsOrder}
 use Rattle.wtf_ring.specs.Points.{PlaceView}
 use Rattle.wtf_overlay.specs.declared.part.Entry.{Entry}
 use Rattle.wtf_base.proofs.Elements.{All-unmap}
 use Rattle.wtf_replica.specs.Inside.{size_in as length_in}
 use Rattle.wtf_replica.proofs.InsideLaws.{slice_from, slice_to}
-use Rattle.wtf_meta.specs.Bytes.{PartBytes, EntryBytes, PiecesBytes}
+use Rattle.wtf_meta.specs.Bytes.{PartBytes, EntryBytes, PiecesBytes, SliceBytes}
+use Rattle.wtf_region.specs.declared.dev.Dev.{Dev}
+use Rattle.wtf_region.specs.Devs.{IsSoundDev, stores, inside_of}
 use Rattle.wtf_region.specs.Inside.{size_in, is_place_inside, is_inside, IsOnServers, part_lies_inside, list_lies_inside}
 use Rattle.wtf_region.specs.Showing.{IsReadablePart, AreReadable}
 
@@ -90,20 +93,45 @@ inside_stays {kind = kind} laws {old = old} {new = new} e settings enough (q ∷
     and_from (is_place_inside kind new settings q) (list_all (is_place_inside kind new settings) qs)
     (place_to kind new settings q (someone new q.server there) was.0 (place_inside_stays laws e q was.1)) (inside_stays laws e settings enough qs both.1)
 
-part_readable : {S : Type 0} (kind : StoreKind S) (down : ℕ → Bool) (shelf : List S) (settings : Settings) (n : ℕ) (part : Part)
-    → settings.servers ≤ length shelf → 0 < n → HasLength n part
-    → PartBytes (is_inside kind shelf settings) n part → IsReadablePart kind down shelf part
-part_readable kind down shelf settings n Zero enough some len h = tt
-part_readable kind down shelf settings n (Held s) enough some len h = λ k d below.
-    inr (inside_places kind shelf s (omega (arith, some, len)) (λ i within. places_from kind shelf settings (places_of s i) enough
-    (h i (omega (arith, within, len)))) k d below)
+-- the servers of places that lie inside the stores, and of a slice whose bytes do, are those of the settings
+places_known : {S : Type 0} (kind : StoreKind S) (shelf : List S) (settings : Settings) → settings.servers ≤ length shelf → (qs : List Place)
+    → is_inside kind shelf settings qs ≡ true → All (λ (q : Place). q.server < settings.servers) qs
+places_known kind shelf settings enough qs h =
+    All-weaker (λ (q : Place). is_place_inside kind shelf settings q ≡ true) (λ (q : Place). q.server < settings.servers)
+    (λ q at. (place_from kind shelf settings q enough at).0) qs
+    (AllPass-from_list_all (is_place_inside kind shelf settings) qs h)
+
+pub slice_known : {S : Type 0} (kind : StoreKind S) (shelf : List S) (settings : Settings) (s : Slice) → settings.servers ≤ length shelf → 0 < len_of s
+    → SliceBytes (is_inside kind shelf settings) s → IsOnServers settings.servers s
+slice_known kind shelf settings s enough some h =
+    All-unmap (λ (q : Place). q.server < settings.servers) (place_in 0) (pointers_of s) (places_known kind shelf settings enough (places_of s 0) (h 0 some))
+
+-- what leaves the servers that have no copy of such a slice leaves those that are not of the settings
+pub past_beside : {S : Type 0} (n : ℕ) (s : Slice) (old new : List S) → IsOnServers n s → SameBeside (pointers_of s) old new → SameFrom n old new
+past_beside n s old new known beside k d low = beside k d
+    (All-weaker (λ (p : Pointer). p.server.0 < n) (λ (p : Pointer). p.server.0 ≢ k)
+    (λ p below same. omega (arith, below, same, low)) (pointers_of s) known)
+
+pub part_past : {S : Type 0} (kind : StoreKind S) (dev : Dev S) (part : Part) (s : Slice) (new : List S) → part ≡ Held s → IsReadablePart kind dev part
+    → SameBeside (pointers_of s) (stores dev) new → SameFrom dev.settings.servers (stores dev) new
+part_past kind dev part s new held readable beside =
+    past_beside dev.settings.servers s (stores dev) new (subst (λ (x : Part). IsReadablePart kind dev x) held readable).1 beside
+
+part_readable : {S : Type 0} (kind : StoreKind S) (dev : Dev S) (n : ℕ) (part : Part) → IsSoundDev kind dev → 0 < n → HasLength n part
+    → PartBytes (inside_of kind dev) n part → IsReadablePart kind dev part
+part_readable kind dev n Zero sound some len h = tt
+part_readable kind dev n (Held s) sound some len h =
+    let has : 0 < len_of s = omega (arith, some, len) in
+    let bytes : SliceBytes (inside_of kind dev) s = λ i within. h i (omega (arith, within, len)) in (
+      λ k d below. inr (inside_places kind (stores dev) s has
+          (λ i within. places_from kind (stores dev) dev.settings (places_of s i) sound.shelf (bytes i within)) k d below),
+      slice_known kind (stores dev) dev.settings s sound.shelf has bytes,
+    )
 
 -- pieces whose bytes lie inside the stores can be read
-pub readable_from : {S : Type 0} (kind : StoreKind S) (down : ℕ → Bool) (shelf : List S) (settings : Settings) (ps : List Piece)
-    → settings.servers ≤ length shelf
-    → PiecesBytes (is_inside kind shelf settings) ps → AreReadable kind down shelf ps
-readable_from kind down shelf settings ps enough h = λ k d below.
-    let p = get_or ps k d in part_readable kind down shelf settings p.len p.part enough p.positive p.held (h k d below)
+pub readable_from : {S : Type 0} (kind : StoreKind S) (dev : Dev S) (ps : List Piece) → IsSoundDev kind dev → PiecesBytes (inside_of kind dev) ps
+    → AreReadable kind dev ps
+readable_from kind dev ps sound h = λ k d below. let p = get_or ps k d in part_readable kind dev p.len p.part sound p.positive p.held (h k d below)
 
 places_to : {S : Type 0} (kind : StoreKind S) (shelf : List S) (settings : Settings) (i : ℕ) (ps : List Pointer)
     → All (λ (p : Pointer). p.server.0 < settings.servers) ps
@@ -120,6 +148,10 @@ places_to kind shelf settings i (p ∷ ps) known inside =
 pub slice_inside : {S : Type 0} (kind : StoreKind S) (shelf : List S) (settings : Settings) (s : Slice) → IsInside kind shelf s → IsOnServers settings.servers s
     → PartBytes (is_inside kind shelf settings) (len_of s) (Held s)
 slice_inside kind shelf settings s inside known = λ i below. places_to kind shelf settings i (pointers_of s) known (places_inside kind shelf s i inside below)
+
+-- an order of so many servers names none behind them
+pub unnamed : (n : ℕ) (servers : List ℕ) (k : ℕ) → IsOrder n servers → n ≤ k → Contains servers k → ⊥
+unnamed n servers k order low c = omega (arith, subst (λ (m : ℕ). m < n) c.2 (order.known c.0 k c.1), low)
 
 -- of an order without some servers each was in it
 leaves_within : (Out : ℕ → Type 0) (P : ℕ → Type 0) (order taken : List ℕ) → LeavesOut Out order taken → All P order → All P taken
@@ -152,7 +184,7 @@ stored_on {place = place} {s = s} n stored all = λ j d below.
 
 -- a slice that lies inside the stores can be read
 pub slice_readable : {S : Type 0} (kind : StoreKind S) (down : ℕ → Bool) (shelf : List S) (s : Slice) → IsInside kind shelf s
-    → IsReadablePart kind down shelf (Held s)
+    → IsReadable kind down shelf s
 slice_readable kind down shelf s inside = λ k d below. inr (inside k d below)
 
 module _ {S : Type 0} (kind : StoreKind S) (shelf : List S) (settings : Settings) (enough : settings.servers ≤ length shelf) where
@@ -172,16 +204,12 @@ module _ {S : Type 0} (kind : StoreKind S) (shelf : List S) (settings : Settings
       let both = and_parts (part_lies_inside settings.servers size e.part) (list_lies_inside settings.servers size es) h in
       All-cons (EntryBytes (is_inside kind shelf settings)) e es (part_inside-from e.len e.part e.held both.0) (list_inside-from es both.1)
 
-  on_servers : (qs : List Place) → is_inside kind shelf settings qs ≡ true → All (λ (q : Place). q.server < settings.servers) qs
-  on_servers qs h = All-weaker (λ (q : Place). is_place_inside kind shelf settings q ≡ true) (λ (q : Place). q.server < settings.servers)
-      (λ q at. (place_from kind shelf settings q enough at).0) qs
-      (AllPass-from_list_all (is_place_inside kind shelf settings) qs h)
-
   part_inside-to : (n : ℕ) (p : Part) → 0 < n → HasLength n p → PartBytes (is_inside kind shelf settings) n p → part_lies_inside settings.servers size p ≡ true
   part_inside-to n Zero some len h = refl
   part_inside-to n (Held s) some len h =
       slice_to kind shelf settings.servers s
-      (All-unmap (λ (q : Place). q.server < settings.servers) (place_in 0) (pointers_of s) (on_servers (places_of s 0) (h 0 some)))
+      (All-unmap (λ (q : Place). q.server < settings.servers) (place_in 0) (pointers_of s)
+      (places_known kind shelf settings enough (places_of s 0) (h 0 some)))
       (inside_places kind shelf s (omega (arith, some, len))
       (λ i within. places_from kind shelf settings (places_of s i) enough (h i (omega (arith, within, len)))))
 

@@ -9,6 +9,7 @@ pub mod ListReads
 pub mod OwnLaws
 pub mod Remembering
 pub mod Recalling
+pub mod Recalls
 pub mod BaseLaws
 mod SliceKeys
 mod RegionKeys

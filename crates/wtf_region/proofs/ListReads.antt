@@ -25,11 +25,10 @@ use Rattle.wtf_values.specs.declared.region.RegionValue.{RegionValue}
 use Rattle.wtf_values.specs.declared.region.Spill.{Spill}
 use Rattle.wtf_replica.specs.Bytes.{shown_byte, ShowsSlice}
 use Rattle.wtf_replica.specs.Copies.{IsFetched, IsReadable}
-use Rattle.wtf_replica.specs.Downs.{is_down}
 use Rattle.wtf_replica.proofs.Bytes.{inside_places, fetched_shown, shows_up-shows}
 use Rattle.wtf_replica.specs.Faults.{IsReadFault}
 use Rattle.wtf_replica.specs.Inside.{size_in}
-use Rattle.wtf_replica.specs.Spans.{Span, span}
+use Rattle.wtf_replica.specs.Spans.{Span}
 use Rattle.wtf_meta.specs.Lists.{ListFact, TellLists, or_none, seen_list, base_facts}
 use Rattle.wtf_meta.specs.Files.{FileView}
 use Rattle.wtf_meta.specs.Contents.{SliceTells, is_told, lists_in}
@@ -41,17 +40,18 @@ use Rattle.wtf_meta.proofs.Weaker.{slices_stay, file_bytes_stay}
 use Rattle.wtf_region.specs.declared.dev.Dev.{Dev}
 use Rattle.wtf_region.specs.Apart.{are_apart}
 use Rattle.wtf_region.specs.Bases.{base_slices, region_slices}
-use Rattle.wtf_region.specs.Cached.{Remembered, cached, list_fact, recalled_one, recalled}
+use Rattle.wtf_region.specs.Cached.{Remembered, cached, list_fact, recalled_one}
 use Rattle.wtf_region.specs.Inside.{is_inside, list_lies_inside}
 use Rattle.wtf_region.specs.Devs.{IsSoundDev, GoesOn, stores, remembered, told_in, shown_in, inside_of, between}
-use Rattle.wtf_region.specs.Reads.{IsTrueList, IsListFetched, IsListGot, IsSliceRead, IsListRead, IsPartRead, IsFileRead, TellsFacts, AreInsideLists}
+use Rattle.wtf_region.specs.Reads.{IsTrueList, IsListFetched, Recalls, IsSliceRead, IsListRead, IsPartRead, IsFileRead, TellsFacts, AreInsideLists}
 use Rattle.wtf_region.specs.Reads.{IsSliceFault, IsBaseFault, IsRegionFault, IsDamaged, MayRecall, LeavesLists, LeavesRegion, RecallsFirst}
 use Rattle.wtf_region.proofs.Frames.{apart_none, tells_on, shows_told, SliceShows-back, slice_stays, entries_inside}
 use Rattle.wtf_region.proofs.InsideLaws.{inside_stays, places_from, slice_readable, list_inside-from}
 use Rattle.wtf_region.proofs.ShowLaws.{told_stays}
 use Rattle.wtf_region.proofs.SliceKeys.{cached_entry}
 use Rattle.wtf_region.proofs.BaseLaws.{base_wants, wants_more}
-use Rattle.wtf_region.proofs.Recalling.{recalled_first, recalled_on}
+use Rattle.wtf_region.proofs.Recalling.{recalled_first}
+use Rattle.wtf_region.proofs.Recalls.{recalls_same, recalls_on, recalls_later}
 
 -- all bytes of a slice that were read are those that a read of its places gives
 pub fetched_is : {S : Type 0} (kind : StoreKind S) (t : Span S) (s : Slice) (out : List ℕ) (k : ℕ) → IsFetched kind t s 0 out k → length out ≡ len_of s
@@ -152,7 +152,7 @@ module _ {S : Type 0} {kind : StoreKind S} (laws : KindLaws kind) where
   -- it is what was read
   pub list_fetched : {old new : Dev S} → GoesOn kind old new [] → (s : Slice) (bytes : List ℕ) (k : ℕ) → cached (remembered old) s ≡ None
       → length bytes ≡ len_of s → IsFetched kind (between old new) s 0 bytes k → (es : List Entry) → decoded new.settings.region bytes ≡ Some es
-      → IsListFetched kind old new s es
+      → IsListFetched kind (between old new) old.settings.region (remembered old) s es
   list_fetched {old = old} {new = new} g s bytes k uncached whole f es is = record {
     uncached = uncached;
     bytes = bytes;
@@ -203,8 +203,7 @@ module _ {S : Type 0} {kind : StoreKind S} (laws : KindLaws kind) where
       let there = cached_entry (remembered old) s es value in
       let lies = sound.lists (s, es) there in
       record {
-        read = inl value;
-        recalls = recalls;
+        recalls = record { got = (inl value, tt); left = recalls };
         stands = recalled_stands old new s es recalls;
         inside = entries_later sound g es lies.1;
         told = λ ranges h told apart.
@@ -215,11 +214,11 @@ module _ {S : Type 0} {kind : StoreKind S} (laws : KindLaws kind) where
 
   -- one that was read, and is remembered now
   pub read_anew : {old mid new : Dev S} → GoesOn kind old mid [] → GoesOn kind mid new [] → (s : Slice)
-      → (es : List Entry) → IsTrueList kind mid s es → IsListFetched kind old new s es
+      → (es : List Entry) → IsTrueList kind mid s es
+      → IsListFetched kind (between old new) old.settings.region (remembered old) s es
       → remembered new ≡ recalled_one (list_fact s es) (remembered old) → IsSliceRead kind old new s es
   read_anew {old = old} {mid = mid} {new = new} g h s es is got recalls = record {
-    read = inr got;
-    recalls = recalls;
+    recalls = record { got = (inr got, tt); left = recalls };
     stands = recalled_stands old new s es recalls;
     inside = entries_later g.sound h es is.inside;
     told = λ ranges was told apart.
@@ -233,9 +232,7 @@ module _ {S : Type 0} {kind : StoreKind S} (laws : KindLaws kind) where
   list_alone dev v none = record {
     under = [];
     is = λ lists tell. sym (ap (λ (b : Option Spill). seen_list lists b ++ v.list) none);
-    read = subst (λ (b : Option Spill). All (λ (f : ListFact). IsListGot kind dev dev f.slice f.list) (base_facts b [])) (sym none)
-        (All-nil (λ (f : ListFact). IsListGot kind dev dev f.slice f.list));
-    recalls = subst (λ (b : Option Spill). remembered dev ≡ recalled (base_facts b []) (remembered dev)) (sym none) refl;
+    recalls = subst (λ (b : Option Spill). Recalls kind dev dev (base_facts b [])) (sym none) (recalls_same kind dev dev refl);
     stands = subst (λ (b : Option Spill). All (λ (f : ListFact). cached (remembered dev) f.slice ≡ Some f.list) (base_facts b [])) (sym none)
         (All-nil (λ (f : ListFact). cached (remembered dev) f.slice ≡ Some f.list));
     inside = subst (λ (b : Option Spill). AreInsideLists kind dev (base_facts b [])) (sym none)
@@ -254,10 +251,7 @@ module _ {S : Type 0} {kind : StoreKind S} (laws : KindLaws kind) where
             let here : TellLists lists (base_facts (Some base) under) = subst (λ (b : Option Spill). TellLists lists (base_facts b under)) is tell in
             ap (λ (o : Option (List Entry)). clip_list base.visible (or_none o) ++ v.list) (sym here.0)
             ∙ ap (λ (b : Option Spill). seen_list lists b ++ v.list) (sym is);
-        read = subst (λ (b : Option Spill). All (λ (f : ListFact). IsListGot kind old new f.slice f.list) (base_facts b under)) (sym is)
-            (All-cons (λ (f : ListFact). IsListGot kind old new f.slice f.list) fact [] read.read
-            (All-nil (λ (f : ListFact). IsListGot kind old new f.slice f.list)));
-        recalls = subst (λ (b : Option Spill). remembered new ≡ recalled (base_facts b under) (remembered old)) (sym is) read.recalls;
+        recalls = subst (λ (b : Option Spill). Recalls kind old new (base_facts b under)) (sym is) read.recalls;
         stands = subst (λ (b : Option Spill). All (λ (f : ListFact). cached (remembered new) f.slice ≡ Some f.list) (base_facts b under)) (sym is)
             (All-cons (λ (f : ListFact). cached (remembered new) f.slice ≡ Some f.list) fact [] read.stands
             (All-nil (λ (f : ListFact). cached (remembered new) f.slice ≡ Some f.list)));
@@ -291,7 +285,7 @@ module _ {S : Type 0} {kind : StoreKind S} (laws : KindLaws kind) where
   part_hole dev off n ps p = record {
     facts = [];
     wants = refl;
-    recalls = refl;
+    recalls = recalls_same kind dev dev refl;
     reads = ReadsRegion-none off n ps p;
     inside = All-nil (λ (f : ListFact). All (EntryBytes (inside_of kind dev)) f.list);
     told = λ ranges h told apart. tt;
@@ -302,7 +296,7 @@ module _ {S : Type 0} {kind : StoreKind S} (laws : KindLaws kind) where
   file_none dev file off ps none = record {
     facts = [];
     wants = refl;
-    recalls = refl;
+    recalls = recalls_same kind dev dev refl;
     reads = ReadsFile-none dev.settings.region file off ps none;
     inside = All-nil (λ (f : ListFact). All (EntryBytes (inside_of kind dev)) f.list);
     told = λ ranges h told apart. tt;
@@ -328,7 +322,7 @@ module _ {S : Type 0} {kind : StoreKind S} (laws : KindLaws kind) where
         facts = first.facts ++ next.facts;
         wants = wants_more old.settings.region off done n r y file first.facts next.facts (omega (arith, some, within)) some at within start
             first.wants next.wants;
-        recalls = recalled_on first.facts next.facts (remembered old) (remembered mid) (remembered new) first.recalls next.recalls;
+        recalls = recalls_on laws g h first.facts next.facts first.recalls next.recalls;
         reads = ReadsFile-part old.settings.region off done r y n file first.facts next.facts ps qs at within first.reads next.reads;
         inside = All-append Names first.facts next.facts
             (All-weaker (λ (f : ListFact). All (EntryBytes (inside_of kind mid)) f.list) Names (λ f names. entries_later g.sound h f.list names)
@@ -350,63 +344,56 @@ module _ {S : Type 0} {kind : StoreKind S} (laws : KindLaws kind) where
   file_read_later {old = old} {mid = mid} {new = new} g h same file off n ps read = record {
     facts = read.facts;
     wants = read.wants;
-    recalls = same ∙ read.recalls;
+    recalls = recalls_later laws g h read.facts read.recalls same;
     reads = read.reads;
     inside = All-weaker (λ (f : ListFact). All (EntryBytes (inside_of kind mid)) f.list) (λ (f : ListFact). All (EntryBytes (inside_of kind new)) f.list)
         (λ f names. entries_later g.sound h f.list names) read.facts read.inside;
     told = λ ranges was told apart. facts_later h read.facts (read.told ranges was told apart);
   }
 
-  -- a list that was read after a look at what is remembered, and before another one
-  pub fetched_since : {old mid : Dev S} (next new : Dev S) → GoesOn kind old mid [] → mid.shelf ≡ old.shelf → new.shelf ≡ next.shelf → (s : Slice)
-      → cached (remembered mid) s ≡ cached (remembered old) s → (es : List Entry) → IsListFetched kind mid next s es → IsListFetched kind old new s es
-  fetched_since {old = old} {mid = mid} next new g same kept s stays es h = record {
-    uncached = sym stays ∙ h.uncached;
-    bytes = h.bytes;
-    server = h.server;
-    whole = h.whole;
-    fetched = subst (λ sh. IsFetched kind (span (is_down old.replicas.now) (stores old) sh.now) s 0 h.bytes h.server) (sym kept)
-        (subst (λ sh. IsFetched kind (span (is_down old.replicas.now) sh.now (stores next)) s 0 h.bytes h.server) same
-        (subst (λ (down : ℕ → Bool). IsFetched kind (span down (stores mid) (stores next)) s 0 h.bytes h.server) (ap (λ r. is_down r.now) g.replicas)
-        h.fetched));
-    decodes = ap (λ (st : Settings). decoded st.region h.bytes) (sym g.settings) ∙ h.decodes;
-  }
-
--- the lists of the bases under the bytes up to one part were asked for, and of that part if its list was
-pub recalls_first : {S : Type 0} {kind : StoreKind S} {old mid : Dev S} (new : Dev S) (file : FileView) (off len done n r y : ℕ) (ps : List Piece)
-    → 0 < n → done + n ≤ len → r * old.settings.region + y ≡ off + done → y + n ≤ old.settings.region → (done ≡ 0) ⊎ (y ≡ 0)
-    → IsFileRead kind old mid file off done ps → MayRecall (region_slices (file.region r)) mid new → RecallsFirst old new file off len
-recalls_first {old = old} {mid = mid} new file off len done n r y ps some fits at within start first may = elim may [
-  | inl same ↦ record { upto = done; within = omega (arith, fits); facts = first.facts; wants = first.wants; recalls = same ∙ first.recalls }
-  | inr next ↦ record {
-    upto = done + n;
-    within = fits;
-    facts = first.facts ++ next.0;
-    wants = wants_more old.settings.region off done n r y file first.facts next.0 (omega (arith, some, within)) some at within start first.wants next.1;
-    recalls = recalled_on first.facts next.0 (remembered old) (remembered mid) (remembered new) first.recalls next.2;
-  }
-]
+  -- the lists of the bases under the bytes up to one part were asked for, and of that part if its list was
+  pub recalls_first : {old mid new : Dev S} → GoesOn kind old mid [] → GoesOn kind mid new [] → (file : FileView) (off len done n r y : ℕ) (ps : List Piece)
+      → 0 < n → done + n ≤ len → r * old.settings.region + y ≡ off + done → y + n ≤ old.settings.region → (done ≡ 0) ⊎ (y ≡ 0)
+      → IsFileRead kind old mid file off done ps → MayRecall kind (region_slices (file.region r)) mid new → RecallsFirst kind old new file off len
+  recalls_first {old = old} g h file off len done n r y ps some fits at within start first may = elim may [
+    | inl same ↦ record {
+      upto = done;
+      within = omega (arith, fits);
+      facts = first.facts;
+      wants = first.wants;
+      recalls = recalls_later laws g h first.facts first.recalls same;
+    }
+    | inr next ↦ record {
+      upto = done + n;
+      within = fits;
+      facts = first.facts ++ next.0;
+      wants = wants_more old.settings.region off done n r y file first.facts next.0 (omega (arith, some, within)) some at within start first.wants next.1;
+      recalls = recalls_on laws g h first.facts next.0 first.recalls next.2;
+    }
+  ]
 
 -- a fault leaves the lists that are remembered
-pub leaves_lists : {S : Type 0} (wants : List Slice) (old new : Dev S) (why : Fault) → remembered new ≡ remembered old → LeavesLists wants old new why
-leaves_lists wants old new fault.Memory same = inl same
-leaves_lists wants old new fault.Write same = same
-leaves_lists wants old new (fault.Read k) same = same
-leaves_lists wants old new (fault.Punch k) same = same
-leaves_lists wants old new (fault.Damaged k) same = same
+pub leaves_lists : {S : Type 0} (kind : StoreKind S) (wants : List Slice) (old new : Dev S) (why : Fault) → remembered new ≡ remembered old
+    → LeavesLists kind wants old new why
+leaves_lists kind wants old new fault.Memory same = inl same
+leaves_lists kind wants old new fault.Write same = same
+leaves_lists kind wants old new (fault.Read k) same = same
+leaves_lists kind wants old new (fault.Punch k) same = same
+leaves_lists kind wants old new (fault.Damaged k) same = same
 
 -- or they were read before it came
-pub may_recall : {S : Type 0} (wants : List Slice) (old new : Dev S) (why : Fault) → LeavesLists wants old new why → MayRecall wants old new
-may_recall wants old new fault.Memory left = left
-may_recall wants old new fault.Write left = inl left
-may_recall wants old new (fault.Read k) left = inl left
-may_recall wants old new (fault.Punch k) left = inl left
-may_recall wants old new (fault.Damaged k) left = inl left
+pub may_recall : {S : Type 0} (kind : StoreKind S) (wants : List Slice) (old new : Dev S) (why : Fault) → LeavesLists kind wants old new why
+    → MayRecall kind wants old new
+may_recall kind wants old new fault.Memory left = left
+may_recall kind wants old new fault.Write left = inl left
+may_recall kind wants old new (fault.Read k) left = inl left
+may_recall kind wants old new (fault.Punch k) left = inl left
+may_recall kind wants old new (fault.Damaged k) left = inl left
 
 -- the base of a region was read, and then memory was short
 pub base_recalled : {S : Type 0} {kind : StoreKind S} (old new : Dev S) (o : Option Spill) (base : Spill) (under : List Entry) → o ≡ Some base
-    → IsSliceRead kind old new base.slice under → MayRecall (base_slices o) old new
-base_recalled old new o base under is read = subst (λ (b : Option Spill). MayRecall (base_slices b) old new) (sym is)
+    → IsSliceRead kind old new base.slice under → MayRecall kind (base_slices o) old new
+base_recalled {kind = kind} old new o base under is read = subst (λ (b : Option Spill). MayRecall kind (base_slices b) old new) (sym is)
     (inr (base_facts (Some base) under, base_wants (Some base) under, read.recalls))
 
 lacks_memory : {S : Type 0} (kind : StoreKind S) (old new : Dev S) (now : Option RegionValue) → IsRegionFault kind old new now fault.Memory
@@ -419,7 +406,7 @@ lacks_memory kind old new (Some v) = base v.base
 
 -- memory may be short at any time
 pub leaves_memory : {S : Type 0} (kind : StoreKind S) (old new : Dev S) (now : Option RegionValue) (why : Fault) → why ≡ fault.Memory
-    → MayRecall (region_slices now) old new → LeavesRegion kind old new now why
+    → MayRecall kind (region_slices now) old new → LeavesRegion kind old new now why
 leaves_memory kind old new now why is left = subst (λ (f : Fault). LeavesRegion kind old new now f) (sym is) (record {
   cause = lacks_memory kind old new now;
   left = left;

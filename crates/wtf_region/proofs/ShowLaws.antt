@@ -7,6 +7,7 @@ use Rattle.std.proofs.lemmas.Bool.{cond-true, cond-false, lt-ltb, le-ltb, lt-leb
 use Rattle.std.proofs.lemmas.List.{take_all, take_at, get_or_append_left, get_or-append_right}
 use Rattle.std.proofs.lemmas.List.Elements.{All-nil, All-cons, All-head, All-tail, All-push, All-weaker}
 use Rattle.wtf_base.specs.declared.pointer.Pointer.{Pointer}
+use Rattle.wtf_base.specs.declared.settings.Settings.{Settings}
 use Rattle.wtf_base.specs.declared.slice.Slice.{Slice}
 use Rattle.wtf_base.specs.declared.fault.Fault.{Fault}
 use Rattle.wtf_base.specs.declared.fault.Fault.TheVariants as fault
@@ -23,13 +24,14 @@ use Rattle.wtf_overlay.proofs.Meanings.{All-meaning, meaning-All}
 use Rattle.wtf_replica.specs.Spans.{Span, span}
 use Rattle.wtf_replica.specs.Downs.{is_down}
 use Rattle.wtf_replica.specs.Bytes.{byte_at, ShowsUp}
-use Rattle.wtf_replica.specs.Copies.{IsCopyInside, IsFetched}
+use Rattle.wtf_replica.specs.Copies.{IsCopyInside, IsReadable, IsFetched}
 use Rattle.wtf_replica.specs.Faults.{AreAllOut, IsReadFault}
 use Rattle.wtf_replica.proofs.Bytes.{byte_at-kept, fetched_bytes}
 use Rattle.wtf_replica.proofs.Spans.{each_kept, same_lengths_on, same_syncs_on, all_out_since}
 use Rattle.wtf_meta.specs.Contents.{TellBytes, is_told}
 use Rattle.wtf_region.specs.declared.dev.Dev.{Dev}
 use Rattle.wtf_region.specs.Devs.{GoesOn, stores, is_down_in, between}
+use Rattle.wtf_region.specs.Inside.{IsOnServers}
 use Rattle.wtf_region.specs.Showing.{IsReadablePart, IsUpPart, Reading, GivesBytes, Gives, ShowsBytes, Shown, ShownBoth, told_by_some, meaning_up, pieces_in}
 use Rattle.wtf_region.specs.Showing.{IsPartFault, IsShowFault, OnlyRead}
 
@@ -177,10 +179,9 @@ both_since {kind = kind} laws {before = before} {mid = mid} e down n f old new h
 }
 
 -- a slice that can be read can be read later
-pub readable_stays : {S : Type 0} {kind : StoreKind S} → KindLaws kind → (down : ℕ → Bool) {old new : List S} → EachFollows kind old new [] → (part : Part)
-    → IsReadablePart kind down old part → IsReadablePart kind down new part
-readable_stays laws down e Zero h = tt
-readable_stays {kind = kind} laws down {old = old} {new = new} e (Held s) h =
+copies_stay : {S : Type 0} {kind : StoreKind S} → KindLaws kind → (down : ℕ → Bool) {old new : List S} → EachFollows kind old new [] → (s : Slice)
+    → IsReadable kind down old s → IsReadable kind down new s
+copies_stay {kind = kind} laws down {old = old} {new = new} e s h =
     All-weaker (λ (p : Pointer). (down p.server.0 ≡ true) ⊎ IsCopyInside kind old p) (λ (p : Pointer). (down p.server.0 ≡ true) ⊎ IsCopyInside kind new p)
     (λ p was. elim was [
       | inl low ↦ inl low
@@ -194,6 +195,15 @@ readable_stays {kind = kind} laws down {old = old} {new = new} e (Held s) h =
         ),
       )
     ]) (pointers_of s) h
+
+pub readable_stays : {S : Type 0} {kind : StoreKind S} → KindLaws kind → {old new : Dev S} → GoesOn kind old new [] → (part : Part)
+    → IsReadablePart kind old part → IsReadablePart kind new part
+readable_stays laws g Zero h = tt
+readable_stays {kind = kind} laws {old = old} {new = new} g (Held s) h = (
+  subst (λ (down : ℕ → Bool). IsReadable kind down (stores new) s) (sym (ap (λ r. is_down r.now) g.replicas))
+      (copies_stay laws (is_down_in old) g.each s h.0),
+  subst (λ (st : Settings). IsOnServers st.servers s) (sym g.settings) h.1,
+)
 
 -- reads one after another
 pub reads_on : {S : Type 0} (kind : StoreKind S) (down : ℕ → Bool) (old mid new : List S) → length mid ≡ length old → OnlyRead kind (span down old mid)

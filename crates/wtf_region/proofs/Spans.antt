@@ -1,5 +1,5 @@
 -- Spans of what is lent.
-use Rattle.std.proofs.Common.{◌≡◌, ℕ, ◌⊎◌, List, [], ◌∷◌, ◌++◌, ◌∙◌, refl, sym, ap, subst, arith, inl, inr}
+use Rattle.std.proofs.Common.{◌≡◌, ℕ, ◌≤◌, ◌⊎◌, List, [], ◌∷◌, ◌++◌, ◌∙◌, refl, sym, ap, subst, arith, inl, inr}
 use Rattle.std.specs.List.{Contains}
 use Rattle.std.specs.Borrow.{MutBor}
 use Rattle.wtf_base.specs.declared.settings.Settings.{Settings}
@@ -9,6 +9,7 @@ use Rattle.wtf_dev.specs.Each.{EachFollows}
 use Rattle.wtf_dev.proofs.Each.{each_on, each_same}
 use Rattle.wtf_overlay.specs.declared.part.Entry.{Entry}
 use Rattle.wtf_replica.specs.Downs.{settings_of}
+use Rattle.wtf_replica.specs.Outs.{SameFrom}
 use Rattle.wtf_region.specs.declared.dev.Dev.{Dev}
 use Rattle.wtf_region.specs.Apart.{with_ranges}
 use Rattle.wtf_region.specs.Cached.{CacheView, AreFrom, CacheInside, CacheTrue}
@@ -26,6 +27,7 @@ goes_nowhere laws dev sound = record {
   ring = refl;
   settings = refl;
   each = each_same laws dev.shelf.now;
+  past = λ k d low. refl;
   sound = sound;
   lists = λ ranges h. h;
 }
@@ -44,23 +46,27 @@ goes_on {kind = kind} laws {new = new} {p = p} {q = q} f g = record {
   ring = g.ring ∙ f.ring;
   settings = g.settings ∙ f.settings;
   each = each_on laws f.each g.each;
+  past = λ k d low. g.past k d (subst (λ (s : Settings). s.servers ≤ k) (sym f.settings) low) ∙ f.past k d low;
   sound = g.sound;
   lists = λ ranges h. subst (RemembersTrue kind new) (with_ranges-append ranges p q)
       (g.lists (with_ranges ranges p) (f.lists ranges h));
 }
 
--- A call that leaves the lists in the cache, whatever it appends or punches: no more is asked of it than that the stores follow.
+-- A call that leaves the lists in the cache, whatever it appends or punches: no more is asked of it than that the stores follow, and that those of no
+-- server of the settings are as they were.
 pub goes_by : {S : Type 0} {kind : StoreKind S} → KindLaws kind → (old new : Dev S) (p : List (ℕ × Range)) → IsSoundDev kind old
     → new.shelf.ghost_name ≡ old.shelf.ghost_name → new.cache.ghost_name ≡ old.cache.ghost_name → remembered new ≡ remembered old
     → AreFrom new.ring.now new.cache.now.places
-    → new.replicas ≡ old.replicas → new.ring ≡ old.ring → new.settings ≡ old.settings → EachFollows kind old.shelf.now new.shelf.now p → GoesOn kind old new p
-goes_by {kind = kind} laws old new p sound shelf cache same from replicas ring settings each = record {
+    → new.replicas ≡ old.replicas → new.ring ≡ old.ring → new.settings ≡ old.settings → EachFollows kind old.shelf.now new.shelf.now p
+    → SameFrom old.settings.servers old.shelf.now new.shelf.now → GoesOn kind old new p
+goes_by {kind = kind} laws old new p sound shelf cache same from replicas ring settings each past = record {
   shelf = shelf;
   cache = cache;
   replicas = replicas;
   ring = ring;
   settings = settings;
   each = each;
+  past = past;
   sound = record {
     replicas = ap (λ r. settings_of r.now) replicas ∙ sound.replicas ∙ sym settings;
     ring = ap (λ r. r.now.servers) ring ∙ sound.ring ∙ sym (ap (λ (s : Settings). s.servers) settings);
@@ -92,6 +98,7 @@ goes_cached laws old cache name sound places from = record {
   ring = refl;
   settings = refl;
   each = each_same laws old.shelf.now;
+  past = λ k d low. refl;
   sound = record {
     replicas = sound.replicas;
     ring = sound.ring;

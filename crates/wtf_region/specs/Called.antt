@@ -1,5 +1,5 @@
 -- What the calls on bytes do and leave: a record for each kind of call.
-use Rattle.std.specs.Prelude.{◌≡◌, ◌+◌, ℕ, List, [], Result, IfOk, IfErr, OnOk, OnErr}
+use Rattle.std.specs.Prelude.{◌≡◌, ◌+◌, ℕ, List, [], length, Result, IfOk, IfErr, OnOk, OnErr}
 use Rattle.wtf_base.specs.declared.fault.Fault.{Fault}
 use Rattle.wtf_base.specs.declared.slice.Slice.{Slice}
 use Rattle.wtf_dev.specs.Store.{StoreKind}
@@ -7,17 +7,19 @@ use Rattle.wtf_dev.specs.Sums.{TellsAll}
 use Rattle.wtf_overlay.specs.Origin.{pieces_origin}
 use Rattle.wtf_overlay.specs.declared.part.Piece.{Piece}
 use Rattle.wtf_replica.specs.Bytes.{byte_at, HoldsSlice}
-use Rattle.wtf_replica.specs.Copies.{IsStored, IsInside}
+use Rattle.wtf_replica.specs.Copies.{IsStored, IsInside, GrowsOnce}
 use Rattle.wtf_replica.specs.Faults.{IsWriteFault}
-use Rattle.wtf_replica.specs.Outs.{IsLeftDown, OtherFilesStay, SameSyncs}
+use Rattle.wtf_replica.specs.Outs.{IsLeftDown, SameSyncs}
+use Rattle.wtf_ring.specs.Orders.{IsOrder}
 use Rattle.wtf_ring.specs.Points.{PlaceView}
 use Rattle.wtf_region.specs.Inside.{IsOnServers}
 use Rattle.wtf_region.specs.Devs.{GoesOn, stores, remembered, is_down_in, between}
 use Rattle.wtf_region.specs.Showing.{Shown, ShownLive, BeginsWith, IsShowFault, OnlyRead, pieces_in}
 use Rattle.wtf_region.specs.declared.dev.Dev.{Dev}
 
--- Bytes were to be stored at a place: a slice of them that lies inside the stores, or why there is none. Servers that are down are left
--- alone, none is synced, no other file of a store grows, and the lists that are remembered stay.
+-- Bytes were to be stored at a place, which names each server of the settings once: a slice of them that lies inside the stores, or why
+-- there is none. Servers that are down are left alone, none is synced, each store grows by nothing or by these bytes in the place's file,
+-- and the lists that are remembered stay.
 pub record StoresBytes {S : Type 0} (kind : StoreKind S) (old new : Dev S) (place : PlaceView) (bytes : List ℕ) (r : Result Slice Fault) : Type 0 where
   pub stored : IfOk r (IsStored kind (between old new) old.settings.replicas place bytes)
   pub holds : IfOk r (λ s. TellsAll kind (stores old) → HoldsSlice (byte_at kind (stores new)) s bytes)
@@ -25,7 +27,8 @@ pub record StoresBytes {S : Type 0} (kind : StoreKind S) (old new : Dev S) (plac
   pub known : IfOk r (IsOnServers old.settings.servers)
   pub fault : IfErr r (IsWriteFault kind (between old new) old.settings)
   pub down : IsLeftDown (between old new)
-  pub others : OtherFilesStay kind (stores old) (stores new) place.file
+  pub order : IsOrder old.settings.servers place.servers
+  pub grows : GrowsOnce kind (between old new) place (length bytes)
   pub lists : remembered new ≡ remembered old
   pub syncs : SameSyncs kind (stores old) (stores new)
   pub dev : GoesOn kind old new []

@@ -4,6 +4,7 @@ use Rattle.wtf_base.specs.declared.ids.InodeId.{InodeId}
 use Rattle.wtf_ring.specs.Points.{PlaceView, place_of}
 use Rattle.wtf_replica.specs.Bytes.{byte_at, shown_byte}
 use Rattle.wtf_replica.specs.Downs.{settings_of, is_down, during}
+use Rattle.wtf_replica.specs.Outs.{SameFrom}
 use Rattle.wtf_replica.specs.Spans.{Span}
 use Rattle.wtf_dev.specs.Store.{Range, StoreKind}
 use Rattle.wtf_dev.specs.Each.{EachFollows}
@@ -60,7 +61,7 @@ pub record IsSoundDev {S : Type 0} (kind : StoreKind S) (dev : Dev S) : Type 0 w
   pub lists : CacheInside (inside_of kind dev) (remembered dev)
 
 -- the same is lent, each store follows what it was, with these ranges punched, and lists that were those of their slices are so
--- still, but where a range has a byte of the slice
+-- still, but where a range has a byte of the slice; stores of no server of the settings are as they were
 pub record GoesOn {S : Type 0} (kind : StoreKind S) (old new : Dev S) (punched : List (ℕ × Range)) : Type 0 where
   pub shelf : new.shelf.ghost_name ≡ old.shelf.ghost_name
   pub cache : new.cache.ghost_name ≡ old.cache.ghost_name
@@ -68,5 +69,6 @@ pub record GoesOn {S : Type 0} (kind : StoreKind S) (old new : Dev S) (punched :
   pub ring : new.ring ≡ old.ring
   pub settings : new.settings ≡ old.settings
   pub each : EachFollows kind old.shelf.now new.shelf.now punched
+  pub past : SameFrom old.settings.servers old.shelf.now new.shelf.now
   pub sound : IsSoundDev kind new
   pub lists : (ranges : List (ℕ × Range)) → RemembersTrue kind old ranges → RemembersTrue kind new (with_ranges ranges punched)

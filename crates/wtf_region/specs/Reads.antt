@@ -1,5 +1,5 @@
 -- What a call reads of the lists of bases, and why it does not.
-use Rattle.std.specs.Prelude.{◌≡◌, ◌⊎◌, ℕ, ◌+◌, ◌-◌, ◌*◌, ◌<◌, ◌≤◌, false, List, [], Option, None, Some, length, ⊤}
+use Rattle.std.specs.Prelude.{◌≡◌, ◌⊎◌, ℕ, ◌+◌, ◌-◌, ◌*◌, ◌<◌, ◌≤◌, false, List, [], ◌∷◌, Option, None, Some, length, ⊤}
 use Rattle.std.specs.List.{All}
 use Rattle.wtf_base.specs.declared.fault.Fault.{Fault}
 use Rattle.wtf_base.specs.declared.fault.Fault.TheVariants as fault
@@ -14,6 +14,7 @@ use Rattle.wtf_values.specs.declared.region.Spill.{Spill}
 use Rattle.wtf_replica.specs.Copies.{IsFetched}
 use Rattle.wtf_replica.specs.Faults.{AreAllOut}
 use Rattle.wtf_replica.specs.Inside.{size_in}
+use Rattle.wtf_replica.specs.Spans.{Span}
 use Rattle.wtf_meta.specs.Lists.{Lists, ListFact, TellLists, list_of, base_facts}
 use Rattle.wtf_meta.specs.Files.{FileView}
 use Rattle.wtf_meta.specs.Contents.{SliceTells, is_told, lists_in}
@@ -22,7 +23,7 @@ use Rattle.wtf_meta.specs.Reads.{ReadsRegion, ReadsFile}
 use Rattle.wtf_region.specs.declared.dev.Dev.{Dev}
 use Rattle.wtf_region.specs.Apart.{are_apart}
 use Rattle.wtf_region.specs.Bases.{slices_of, region_slices, bases_in}
-use Rattle.wtf_region.specs.Cached.{cached, list_fact, recalled_one, recalled}
+use Rattle.wtf_region.specs.Cached.{Remembered, cached, list_fact, recalled_one, recalled}
 use Rattle.wtf_region.specs.Inside.{list_lies_inside}
 use Rattle.wtf_region.specs.Devs.{GoesOn, RemembersTrue, stores, remembered, told_in, shown_in, inside_of, between}
 
@@ -50,24 +51,33 @@ abbrev pub IsOfBase : Option Spill → Slice → Type 0
 IsOfBase None s = ⊥
 IsOfBase (Some base) s = s ≡ base.slice
 
--- A list was not remembered, and all bytes of its slice were read from server k, the first one with a copy that is not out: they
--- decode to it.
-pub record IsListFetched {S : Type 0} (kind : StoreKind S) (old new : Dev S) (s : Slice) (es : List Entry) : Type 0 where
-  pub uncached : cached (remembered old) s ≡ None
+-- A list was not among those that were remembered, and all bytes of its slice were read from server k, the first one with a copy that is
+-- not out: they decode to it, where a region has b bytes.
+pub record IsListFetched {S : Type 0} (kind : StoreKind S) (t : Span S) (b : ℕ) (had : Remembered) (s : Slice) (es : List Entry) : Type 0 where
+  pub uncached : cached had s ≡ None
   pub bytes : List ℕ
   pub server : ℕ
   pub whole : length bytes ≡ len_of s
-  pub fetched : IsFetched kind (between old new) s 0 bytes server
-  pub decodes : decoded old.settings.region bytes ≡ Some es
+  pub fetched : IsFetched kind t s 0 bytes server
+  pub decodes : decoded b bytes ≡ Some es
 
 -- where a list comes from: it was remembered, or was read
-abbrev pub IsListGot : {S : Type 0} → StoreKind S → (old new : Dev S) → Slice → List Entry → Type 0
-IsListGot kind old new s es = (cached (remembered old) s ≡ Some es) ⊎ IsListFetched kind old new s es
+abbrev pub IsListGot : {S : Type 0} → StoreKind S → Span S → (b : ℕ) → Remembered → Slice → List Entry → Type 0
+IsListGot kind t b had s es = (cached had s ≡ Some es) ⊎ IsListFetched kind t b had s es
+
+-- where each of these lists comes from, by what was remembered when it was asked for: the lists before it are then
+abbrev pub AreListsGot : {S : Type 0} → StoreKind S → Span S → (b : ℕ) → Remembered → List ListFact → Type 0
+AreListsGot kind t b had [] = ⊤
+AreListsGot kind t b had (f ∷ fs) = IsListGot kind t b had f.slice f.list × AreListsGot kind t b (recalled_one f had) fs
+
+-- these lists were asked for, one after another: each was remembered or was read, and what is remembered is as that leaves it
+pub record Recalls {S : Type 0} (kind : StoreKind S) (old new : Dev S) (facts : List ListFact) : Type 0 where
+  pub got : AreListsGot kind (between old new) old.settings.region (remembered old) facts
+  pub left : remembered new ≡ recalled facts (remembered old)
 
 -- the list of a slice was read: it is the last to be forgotten now, and is what the slice decodes to
 pub record IsSliceRead {S : Type 0} (kind : StoreKind S) (old new : Dev S) (s : Slice) (es : List Entry) : Type 0 where
-  pub read : IsListGot kind old new s es
-  pub recalls : remembered new ≡ recalled_one (list_fact s es) (remembered old)
+  pub recalls : Recalls kind old new (list_fact s es ∷ [])
   pub stands : cached (remembered new) s ≡ Some es
   pub inside : All (EntryBytes (inside_of kind new)) es
   pub told : (ranges : List (ℕ × Range)) → RemembersTrue kind old ranges → SliceBytes (is_told (told_in kind old)) s
@@ -77,8 +87,7 @@ pub record IsSliceRead {S : Type 0} (kind : StoreKind S) (old new : Dev S) (s : 
 pub record IsListRead {S : Type 0} (kind : StoreKind S) (old new : Dev S) (v : RegionValue) (list : List Entry) : Type 0 where
   pub under : List Entry
   pub is : (lists : Lists) → TellLists lists (base_facts v.base under) → list ≡ list_of lists v
-  pub read : All (λ (f : ListFact). IsListGot kind old new f.slice f.list) (base_facts v.base under)
-  pub recalls : remembered new ≡ recalled (base_facts v.base under) (remembered old)
+  pub recalls : Recalls kind old new (base_facts v.base under)
   pub stands : All (λ (f : ListFact). cached (remembered new) f.slice ≡ Some f.list) (base_facts v.base under)
   pub inside : AreInsideLists kind new (base_facts v.base under)
   pub told : TellsFacts kind old new (base_facts v.base under)
@@ -87,7 +96,7 @@ pub record IsListRead {S : Type 0} (kind : StoreKind S) (old new : Dev S) (v : R
 pub record IsPartRead {S : Type 0} (kind : StoreKind S) (old new : Dev S) (now : Option RegionValue) (off n : ℕ) (ps : List Piece) : Type 0 where
   pub facts : List ListFact
   pub wants : slices_of facts ≡ region_slices now
-  pub recalls : remembered new ≡ recalled facts (remembered old)
+  pub recalls : Recalls kind old new facts
   pub reads : ReadsRegion now off n facts ps
   pub inside : AreInsideLists kind new facts
   pub told : TellsFacts kind old new facts
@@ -96,7 +105,7 @@ pub record IsPartRead {S : Type 0} (kind : StoreKind S) (old new : Dev S) (now :
 pub record IsFileRead {S : Type 0} (kind : StoreKind S) (old new : Dev S) (file : FileView) (off n : ℕ) (ps : List Piece) : Type 0 where
   pub facts : List ListFact
   pub wants : slices_of facts ≡ bases_in old.settings.region file off n
-  pub recalls : remembered new ≡ recalled facts (remembered old)
+  pub recalls : Recalls kind old new facts
   pub reads : ReadsFile old.settings.region file off n facts ps
   pub inside : AreInsideLists kind new facts
   pub told : TellsFacts kind old new facts
@@ -132,19 +141,19 @@ IsRegionFault kind old new None why = why ≡ fault.Memory
 IsRegionFault kind old new (Some v) why = IsBaseFault kind old new v.base why
 
 -- the lists of these slices were asked for, or none was
-abbrev pub MayRecall : {S : Type 0} → List Slice → (old new : Dev S) → Type 0
-MayRecall wants old new =
-    (remembered new ≡ remembered old) ⊎ ((facts : List ListFact) × (slices_of facts ≡ wants) × (remembered new ≡ recalled facts (remembered old)))
+abbrev pub MayRecall : {S : Type 0} → StoreKind S → List Slice → (old new : Dev S) → Type 0
+MayRecall kind wants old new =
+    (remembered new ≡ remembered old) ⊎ ((facts : List ListFact) × (slices_of facts ≡ wants) × Recalls kind old new facts)
 
 -- a fault leaves the lists that are remembered; want of memory may come after those of these slices were read
-abbrev pub LeavesLists : {S : Type 0} → List Slice → (old new : Dev S) → Fault → Type 0
-LeavesLists wants old new fault.Memory = MayRecall wants old new
-LeavesLists wants old new other = remembered new ≡ remembered old
+abbrev pub LeavesLists : {S : Type 0} → StoreKind S → List Slice → (old new : Dev S) → Fault → Type 0
+LeavesLists kind wants old new fault.Memory = MayRecall kind wants old new
+LeavesLists kind wants old new other = remembered new ≡ remembered old
 
 -- why a region's list was not read, and what is remembered then
 pub record LeavesRegion {S : Type 0} (kind : StoreKind S) (old new : Dev S) (now : Option RegionValue) (why : Fault) : Type 0 where
   pub cause : IsRegionFault kind old new now why
-  pub left : LeavesLists (region_slices now) old new why
+  pub left : LeavesLists kind (region_slices now) old new why
 
 -- A region in which one of n bytes from off on lies has a list that was not read, at a moment to which the call had gone on: it is
 -- the first one, and the lists of the bases of the regions before it were read, in order, and no others.
@@ -152,23 +161,23 @@ pub record LacksRegion {S : Type 0} (kind : StoreKind S) (old new : Dev S) (file
   pub mid : Dev S
   pub goes : GoesOn kind old mid []
   pub before : List ListFact
-  pub recalls : remembered mid ≡ recalled before (remembered old)
+  pub recalls : Recalls kind old mid before
   pub some : 0 < n
   pub region : ℕ
   pub from : off < region * old.settings.region + old.settings.region
   pub upto : region * old.settings.region < off + n
   pub earlier : slices_of before ≡ bases_in old.settings.region file off (region * old.settings.region - off)
   pub cause : IsRegionFault kind mid new (file.region region) why
-  pub left : LeavesLists (region_slices (file.region region)) mid new why
+  pub left : LeavesLists kind (region_slices (file.region region)) mid new why
 
 -- why n bytes of a file from off on were not read as pieces
 abbrev pub IsFileFault : {S : Type 0} → StoreKind S → (old new : Dev S) → FileView → (off n : ℕ) → Fault → Type 0
 IsFileFault kind old new file off n why = (why ≡ fault.Memory) ⊎ LacksRegion kind old new file off n why
 
 -- of n bytes of a file from off on, the lists of the bases under the first so many of them were asked for, in order, and no others
-pub record RecallsFirst {S : Type 0} (old new : Dev S) (file : FileView) (off n : ℕ) : Type 0 where
+pub record RecallsFirst {S : Type 0} (kind : StoreKind S) (old new : Dev S) (file : FileView) (off n : ℕ) : Type 0 where
   pub upto : ℕ
   pub within : upto ≤ n
   pub facts : List ListFact
   pub wants : slices_of facts ≡ bases_in old.settings.region file off upto
-  pub recalls : remembered new ≡ recalled facts (remembered old)
+  pub recalls : Recalls kind old new facts

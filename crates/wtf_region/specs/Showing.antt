@@ -17,15 +17,18 @@ use Rattle.wtf_replica.specs.Spans.{Span}
 use Rattle.wtf_replica.specs.Copies.{IsReadable}
 use Rattle.wtf_replica.specs.Faults.{AreAllOut}
 use Rattle.wtf_replica.specs.Outs.{IsLeftDown, SameLengths, SameSyncs}
+use Rattle.wtf_region.specs.Inside.{IsOnServers}
+use Rattle.wtf_region.specs.Devs.{stores, is_down_in}
+use Rattle.wtf_region.specs.declared.dev.Dev.{Dev}
 
--- no slice holds the part, or each copy of its slice on a server that is not down lies inside its store
-abbrev pub IsReadablePart : {S : Type 0} → StoreKind S → (ℕ → Bool) → List S → Part → Type 0
-IsReadablePart kind down shelf Zero = ⊤
-IsReadablePart kind down shelf (Held s) = IsReadable kind down shelf s
+-- no slice holds the part, or each copy of its slice is on a server of the settings, and on one that is not down lies inside its store
+abbrev pub IsReadablePart : {S : Type 0} → StoreKind S → Dev S → Part → Type 0
+IsReadablePart kind dev Zero = ⊤
+IsReadablePart kind dev (Held s) = IsReadable kind (is_down_in dev) (stores dev) s × IsOnServers dev.settings.servers s
 
 -- the same of each of the pieces
-abbrev pub AreReadable : {S : Type 0} → StoreKind S → (ℕ → Bool) → List S → List Piece → Type 0
-AreReadable kind down shelf pieces = All (λ (p : Piece). IsReadablePart kind down shelf p.part) pieces
+abbrev pub AreReadable : {S : Type 0} → StoreKind S → Dev S → List Piece → Type 0
+AreReadable kind dev pieces = All (λ (p : Piece). IsReadablePart kind dev p.part) pieces
 
 -- some copy of the part lies on a server that is up, or no slice holds it
 abbrev pub IsUpPart : (ℕ → Bool) → Part → Type 0

@@ -24,7 +24,7 @@ fn show_part<S: SliceStore>(
     requires sound { IsSoundDev S.kind dev.old }
     requires some { 0 < len }
     requires within { off + len ≤ piece.now.len }
-    requires readable { IsReadablePart S.kind (is_down_in dev.old) (stores dev.old) piece.now.part }
+    requires readable { IsReadablePart S.kind dev.old piece.now.part }
     ensures shown { OnOk result (ShownBoth (is_down_in dev.old) (byte_at S.kind (stores dev.old))
         len (λ i. part_origin piece.now.part (off + i)) out.old.items out.new.items) }
     ensures up { OnOk result (IsUpPart (is_down_in dev.old) piece.now.part) }
@@ -62,7 +62,7 @@ fn show_all<S: SliceStore>(
 ) -> Result<(), Fault>
     requires sound { IsSoundDev S.kind dev.old }
     requires within { off + len ≤ pieces_len pieces.now }
-    requires readable { AreReadable S.kind (is_down_in dev.old) (stores dev.old) pieces.now }
+    requires readable { AreReadable S.kind dev.old pieces.now }
     ensures shown { OnOk result (ShownBoth (is_down_in dev.old) (byte_at S.kind (stores dev.old))
         len (λ i. pieces_origin pieces.now (off + i)) out.old.items out.new.items) }
     ensures fault { IfErr result
@@ -104,7 +104,7 @@ pub fn show<S: SliceStore>(
 ) -> Result<(), Fault>
     requires sound { IsSoundDev S.kind dev.old }
     requires within { off + len ≤ pieces_len pieces.now }
-    requires readable { AreReadable S.kind (is_down_in dev.old) (stores dev.old) pieces.now }
+    requires readable { AreReadable S.kind dev.old pieces.now }
     ensures { ShowsBytesOf S.kind dev.old dev.new
         (record { pieces = pieces.now; off = off; len = len }) out.old.items out.new.items result }
 {

@@ -91,7 +91,8 @@ fn read_list<S: SliceStore>(
     requires inside { SliceBytes (inside_of S.kind dev.old) slice.now }
     requires uncached { cached (remembered dev.old) slice.now ≡ None }
     ensures read { IfOk result (IsTrueList S.kind dev.new slice.now) }
-    ensures fetched { IfOk result (IsListFetched S.kind dev.old dev.new slice.now) }
+    ensures fetched { IfOk result (IsListFetched S.kind (between dev.old dev.new)
+        dev.old.settings.region (remembered dev.old) slice.now) }
     ensures fault { IfErr result (IsSliceFault S.kind dev.old dev.new slice.now) }
     ensures cache { dev.new.cache ≡ dev.old.cache }
     ensures reads { OnlyRead S.kind (between dev.old dev.new) }
@@ -209,7 +210,7 @@ pub fn region_list<S: SliceStore>(
     requires inside { BaseBytes (inside_of S.kind dev.old) any_slice value.now.base }
     ensures read { IfOk result (IsListRead S.kind dev.old dev.new value.now) }
     ensures fault { IfErr result (IsBaseFault S.kind dev.old dev.new value.now.base) }
-    ensures left { IfErr result (LeavesLists (base_slices value.now.base) dev.old dev.new) }
+    ensures left { IfErr result (LeavesLists S.kind (base_slices value.now.base) dev.old dev.new) }
     ensures only { RemembersOnly (IsOfBase value.now.base) (remembered dev.old) (remembered dev.new) }
     ensures reads { OnlyRead S.kind (between dev.old dev.new) }
     ensures dev { GoesOn S.kind dev.old dev.new [] }

@@ -247,7 +247,7 @@ pub fn pieces<S: SliceStore>(
     ensures fault { IfErr result
         (IsFileFault S.kind dev.old dev.new (file_of inode (seen kv.now at.old)) off len) }
     ensures err { OnErr result
-        (RecallsFirst dev.old dev.new (file_of inode (seen kv.now at.old)) off len) }
+        (RecallsFirst S.kind dev.old dev.new (file_of inode (seen kv.now at.old)) off len) }
     ensures reads { OnlyRead S.kind (between dev.old dev.new) }
     ensures dev { GoesOn S.kind dev.old dev.new [] }
 {

@@ -14,12 +14,9 @@ pub show_part-requires-clause-readable : goal.show_part-requires-clause-readable
 show_part-requires-clause-readable g c =
     let kind = g.S.SliceStore.kind in
     let p = c.piece-item.result in
-    let each = c.loop-piece.invariant.each in
-    let old = c.args.dev.now in
-    subst (λ (down : ℕ → Bool). IsReadablePart kind down (stores c.loop-piece.dev) p.part) (sym (ap (λ r. is_down r.now) each.replicas))
-    (readable_stays g.met.S.SliceStore.laws (is_down_in old) each.each p.part
-    (subst (λ (q : Piece). IsReadablePart kind (is_down_in old) (stores old) q.part) (sym c.piece-item.is)
-    (c.requires.readable c.loop-piece.piece-index p c.loop-piece-test.true)))
+    readable_stays g.met.S.SliceStore.laws c.loop-piece.invariant.each p.part
+    (subst (λ (q : Piece). IsReadablePart kind c.args.dev.now q.part) (sym c.piece-item.is)
+    (c.requires.readable c.loop-piece.piece-index p c.loop-piece-test.true))
 
 -- the pieces that are left begin with this one
 here : (ps : List Piece) (k : ℕ) (p : Piece) → k < length ps → p ≡ get_or ps k p → drop k ps ≡ p ∷ drop (k + 1) ps

@@ -9,12 +9,13 @@ use Rattle.wtf_replica.specs.Bytes.{byte_at}
 use Rattle.wtf_region.specs.Devs.{stores, is_down_in}
 use Rattle.wtf_region.specs.Showing.{IsReadablePart, ShowsBytes, GivesBytes, meaning_up}
 use Rattle.wtf_region.proofs.ShowLaws.{copy_shows, copy_lives, part_fault, end_written}
+use Rattle.wtf_region.proofs.InsideLaws.{part_past}
 use Rattle.wtf_region.proofs.Spans.{goes_by}
 use Rattle.wtf_region.proofs.fetching.show_part.Goals as goal
 
 pub fetch-requires-clause-inside : goal.fetch-requires-clause-inside
 fetch-requires-clause-inside g c =
-    subst (λ (x : Part). IsReadablePart g.S.SliceStore.kind (is_down_in c.args.dev.now) (stores c.args.dev.now) x) c.in-Held.is c.requires.readable
+    (subst (λ (x : Part). IsReadablePart g.S.SliceStore.kind c.args.dev.now x) c.in-Held.is c.requires.readable).0
 
 pub returns-in-Err-clause-fault : goal.returns-in-Err-clause-fault
 returns-in-Err-clause-fault g c =
@@ -70,8 +71,10 @@ returns-clause-shown g c =
 
 pub returns-in-Err-clause-dev : goal.returns-in-Err-clause-dev
 returns-in-Err-clause-dev g c = goes_by g.met.S.SliceStore.laws c.args.dev.now _ [] c.requires.sound refl refl refl c.requires.sound.cache refl refl refl
-    c.fetch.ensures.follows
+    c.fetch.ensures.follows (part_past g.S.SliceStore.kind c.args.dev.now c.args.piece.now.part
+    c.in-Held.slice c.fetch.new.shelf c.in-Held.is c.requires.readable c.fetch.ensures.beside)
 
 pub returns-clause-dev : goal.returns-clause-dev
 returns-clause-dev g c = goes_by g.met.S.SliceStore.laws c.args.dev.now _ [] c.requires.sound refl refl refl c.requires.sound.cache refl refl refl
-    c.fetch.ensures.follows
+    c.fetch.ensures.follows (part_past g.S.SliceStore.kind c.args.dev.now c.args.piece.now.part
+    c.in-Held.slice c.fetch.new.shelf c.in-Held.is c.requires.readable c.fetch.ensures.beside)

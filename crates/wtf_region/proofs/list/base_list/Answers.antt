@@ -1,9 +1,10 @@
 use Rattle.std.proofs.Common.{◌≡◌, sym, ap, ◌∙◌}
-use Rattle.wtf_region.specs.Cached.{Remembered, cached, list_fact, recalled_one}
+use Rattle.wtf_region.specs.Cached.{list_fact, recalled_one}
 use Rattle.wtf_region.specs.Devs.{remembered}
 use Rattle.wtf_region.proofs.Spans.{goes_on}
 use Rattle.wtf_region.proofs.Recalling.{looked_up_some, looked_up_none, remembers_recalled}
-use Rattle.wtf_region.proofs.ListReads.{read_cached, read_anew, fetched_since}
+use Rattle.wtf_region.proofs.Recalls.{list_within}
+use Rattle.wtf_region.proofs.ListReads.{read_cached, read_anew}
 use Rattle.wtf_region.proofs.list.base_list.Goals as goal
 
 pub returns-in-Some-clause-read : goal.returns-in-Some-clause-read
@@ -26,8 +27,7 @@ returns-in-Ok-remember-clause-read g c =
     looked_up_none s c.in-Ok.known (remembered c.args.dev.now) (remembered c.recall.new.dev) c.in_default.is c.in-Ok.ensures.ok in
     read_anew g.met.S.SliceStore.laws (goes_on g.met.S.SliceStore.laws c.recall.ensures.dev c.read_list.ensures.dev) c.remember.ensures.dev s list
     c.in-Ok-read_list.ensures.read
-    (fetched_since g.met.S.SliceStore.laws c.read_list.new.dev c.remember.new.dev c.recall.ensures.dev c.recall.ensures.shelf c.remember.ensures.shelf s
-    (ap (λ (l : Remembered). cached l s) same) list c.in-Ok-read_list.ensures.fetched)
+    (list_within g.met.S.SliceStore.laws c.recall.ensures.dev c.read_list.ensures.dev c.remember.ensures.dev s list same c.in-Ok-read_list.ensures.fetched)
     (c.in-Ok-remember.ensures.ok ∙ ap (recalled_one (list_fact s list)) (ap (λ cache. cache.now.lists) c.read_list.ensures.cache ∙ same))
 
 pub returns-in-Ok-remember-clause-only : goal.returns-in-Ok-remember-clause-only

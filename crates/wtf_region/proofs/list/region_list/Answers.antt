@@ -52,12 +52,13 @@ returns-in-Err-clause-left g c = inl refl
 
 pub returns-in-Err-base_list-clause-left : goal.returns-in-Err-base_list-clause-left
 returns-in-Err-base_list-clause-left g c =
-    leaves_lists (base_slices c.args.value.now.base) c.args.dev.now c.base_list.new.dev c.in-Err-base_list.why c.in-Err-base_list.ensures.err
+    leaves_lists g.S.SliceStore.kind (base_slices c.args.value.now.base) c.args.dev.now c.base_list.new.dev c.in-Err-base_list.why
+    c.in-Err-base_list.ensures.err
 
 pub returns-clause-left : goal.returns-clause-left
 returns-clause-left g c =
     let wants = base_slices c.args.value.now.base in
-    IfErr-weaker c.list_over.result _ (LeavesLists wants c.args.dev.now c.base_list.new.dev)
-    (λ why is. subst (LeavesLists wants c.args.dev.now c.base_list.new.dev) (sym is)
+    IfErr-weaker c.list_over.result _ (LeavesLists g.S.SliceStore.kind wants c.args.dev.now c.base_list.new.dev)
+    (λ why is. subst (LeavesLists g.S.SliceStore.kind wants c.args.dev.now c.base_list.new.dev) (sym is)
     (base_recalled c.args.dev.now c.base_list.new.dev c.args.value.now.base c.in-Some.base c.in-Ok-base_list.under c.in-Some.is
     c.in-Ok-base_list.ensures.read)) c.list_over.ensures.fault

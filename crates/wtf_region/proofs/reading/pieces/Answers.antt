@@ -107,10 +107,10 @@ returns-in-Err-clause-err g c =
     let lack : LeavesRegion g.S.SliceStore.kind mid c.region_pieces.new.dev (v.region p.region) c.in-Err.why =
     subst (λ (w : Map). LeavesRegion g.S.SliceStore.kind mid c.region_pieces.new.dev ((file_of i w).region p.region) c.in-Err.why) same
     c.in-Err.ensures.fault in
-    recalls_first c.region_pieces.new.dev v c.args.off c.args.len c.loop-done.done p.len p.region p.off c.loop-done.out.items e.some
-    (omega (arith, e.inside)) e.place e.within
+    recalls_first g.met.S.SliceStore.laws inv.each c.region_pieces.ensures.dev v c.args.off c.args.len c.loop-done.done p.len p.region p.off
+    c.loop-done.out.items e.some (omega (arith, e.inside)) e.place e.within
     (part_start b c.args.off c.args.len c.loop-done.done p.region p.off c.loop-done-test.true inv.border e.place (omega (arith, e.within, e.some))) inv.read
-    (may_recall (region_slices (v.region p.region)) mid c.region_pieces.new.dev c.in-Err.why lack.left)
+    (may_recall g.S.SliceStore.kind (region_slices (v.region p.region)) mid c.region_pieces.new.dev c.in-Err.why lack.left)
 
 pub returns-in-Err-append-clause-err : goal.returns-in-Err-append-clause-err
 returns-in-Err-append-clause-err g c =
@@ -127,8 +127,8 @@ returns-in-Err-append-clause-err g c =
     let more : IsPartRead g.S.SliceStore.kind c.loop-done.dev c.region_pieces.new.dev (v.region p.region) p.off p.len c.in-Ok.more.items =
     subst (λ (w : Map). IsPartRead g.S.SliceStore.kind c.loop-done.dev c.region_pieces.new.dev ((file_of i w).region p.region) p.off p.len c.in-Ok.more.items)
     same c.in-Ok.ensures.read in
-    recalls_first c.region_pieces.new.dev v c.args.off c.args.len c.loop-done.done p.len p.region p.off c.loop-done.out.items e.some
-    (omega (arith, e.inside)) e.place e.within
+    recalls_first g.met.S.SliceStore.laws inv.each c.region_pieces.ensures.dev v c.args.off c.args.len c.loop-done.done p.len p.region p.off
+    c.loop-done.out.items e.some (omega (arith, e.inside)) e.place e.within
     (part_start b c.args.off c.args.len c.loop-done.done p.region p.off c.loop-done-test.true inv.border e.place (omega (arith, e.within, e.some))) inv.read
     (inr (more.facts, more.wants, more.recalls))
 

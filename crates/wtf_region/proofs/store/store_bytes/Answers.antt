@@ -1,16 +1,14 @@
-use Rattle.std.proofs.Common.{ℕ, ◌<◌, [], refl, subst}
+use Rattle.std.proofs.Common.{ℕ, [], length, refl, subst}
 use Rattle.std.specs.Prelude.{IfOk, IfErr}
-use Rattle.std.specs.List.{All}
 use Rattle.std.proofs.lemmas.Result.{IfOk-weaker}
 use Rattle.wtf_base.specs.declared.settings.Settings.{Settings}
+use Rattle.wtf_ring.specs.Orders.{IsOrder}
 use Rattle.wtf_ring.specs.Points.{PlaceView}
-use Rattle.wtf_replica.specs.Copies.{IsStored}
+use Rattle.wtf_replica.specs.Copies.{IsStored, GrowsOnce}
 use Rattle.wtf_replica.specs.Downs.{during, settings_of}
 use Rattle.wtf_replica.specs.Faults.{IsWriteFault}
-use Rattle.wtf_replica.specs.Outs.{OtherFilesStay}
-use Rattle.wtf_region.specs.Devs.{stores}
 use Rattle.wtf_region.specs.Inside.{IsOnServers}
-use Rattle.wtf_region.proofs.InsideLaws.{stored_on}
+use Rattle.wtf_region.proofs.InsideLaws.{stored_on, unnamed}
 use Rattle.wtf_region.proofs.Spans.{goes_by}
 use Rattle.wtf_region.proofs.store.store_bytes.Goals as goal
 
@@ -26,18 +24,21 @@ returns g c =
     let at = c.place-place.ensures.value in
     let settings = c.requires.sound.replicas in
     let left = c.place-place.follows.holds-at-none in
+    let order = subst (λ (n : ℕ). IsOrder n place.servers) c.requires.sound.ring at.order in
     record {
       stored = subst (λ (p : PlaceView). IfOk r (IsStored kind t dev.settings.replicas p bytes)) at.value
           (subst (λ (st : Settings). IfOk r (IsStored kind t st.replicas place bytes)) settings made.stored);
       holds = made.holds;
       inside = made.inside;
       known = IfOk-weaker r (IsStored kind t (settings_of dev.replicas.now).replicas place bytes) (IsOnServers dev.settings.servers)
-          (λ s stored. stored_on dev.settings.servers stored (subst (λ (n : ℕ). All (λ k. k < n) place.servers) c.requires.sound.ring at.order.known))
+          (λ s stored. stored_on dev.settings.servers stored order.known)
           made.stored;
       fault = subst (λ (st : Settings). IfErr r (IsWriteFault kind t st)) settings made.fault;
       down = made.down;
-      others = subst (λ (p : PlaceView). OtherFilesStay kind (stores dev) c.create.new.shelf p.file) at.value made.others;
+      order = subst (λ (p : PlaceView). IsOrder dev.settings.servers p.servers) at.value order;
+      grows = subst (λ (p : PlaceView). GrowsOnce kind t p (length bytes)) at.value made.grows;
       lists = left.1;
       syncs = made.syncs;
-      dev = goes_by g.met.S.SliceStore.laws dev _ [] c.requires.sound refl refl left.1 left.0 refl refl refl made.follows;
+      dev = goes_by g.met.S.SliceStore.laws dev _ [] c.requires.sound refl refl left.1 left.0 refl refl refl made.follows
+          (λ k d low. made.grows.beside k d (unnamed dev.settings.servers place.servers k order low));
     }
