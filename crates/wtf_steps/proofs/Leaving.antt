@@ -1,32 +1,38 @@
 -- What a call leaves alone of the stores, from what is known of its parts.
-use Rattle.std.proofs.Common.{◌≡◌, ℕ, List, Option, None, Some, refl, sym, subst}
+use Rattle.std.proofs.Common.{◌≡◌, ℕ, Option, None, Some, refl, sym, subst, inl, inr}
 use Rattle.std.specs.Option.{option_map}
 use Rattle.wtf_dev.specs.Store.{StoreKind}
-use Rattle.wtf_replica.specs.Outs.{IsLeftDown, OtherFilesStay, SameSyncs}
+use Rattle.wtf_ring.specs.Points.{PlaceView}
+use Rattle.wtf_replica.specs.Copies.{GrowsOnce}
+use Rattle.wtf_replica.specs.Outs.{IsLeftDown, SameSyncs}
 use Rattle.wtf_replica.specs.Spans.{Span}
 use Rattle.wtf_meta.specs.declared.session.Handle.{Handle}
 use Rattle.wtf_region.specs.declared.dev.Dev.{Dev}
-use Rattle.wtf_region.specs.Devs.{stores, between}
+use Rattle.wtf_region.specs.Devs.{between}
 use Rattle.wtf_region.specs.Showing.{OnlyRead}
 use Rattle.wtf_steps.specs.Leaving.{GrowsOnly, LeavesStores}
 
 -- stores that were only read
-pub leaves_read : {S : Type 0} (kind : StoreKind S) (t : Span S) → OnlyRead kind t → LeavesStores kind None t
-leaves_read kind t reads = record { down = reads.down; syncs = reads.syncs; files = reads.lengths }
+pub leaves_read : {S : Type 0} (kind : StoreKind S) (t : Span S) (n : ℕ) → OnlyRead kind t → LeavesStores kind None n t
+leaves_read kind t n reads = record { down = reads.down; syncs = reads.syncs; files = reads.lengths }
 
-grows_none : {S : Type 0} (kind : StoreKind S) (into : Option ℕ) (shelf : List S) → GrowsOnly kind into shelf shelf
-grows_none kind None shelf = λ k d there f. refl
-grows_none kind (Some file) shelf = λ k f d other. refl
+grows_none : {S : Type 0} (kind : StoreKind S) (into : Option PlaceView) (n : ℕ) (dev : Dev S) → GrowsOnly kind into n (between dev dev)
+grows_none kind None n dev = λ k d there f. refl
+grows_none kind (Some place) n dev = record {
+  others = λ k f d other. refl;
+  beside = λ k d none. refl;
+  once = λ k d there. inr (inl refl);
+}
 
 -- or not touched
-pub leaves_all : {S : Type 0} (kind : StoreKind S) (into : Option ℕ) (dev : Dev S) → LeavesStores kind into (between dev dev)
-leaves_all kind into dev = record { down = λ k d down. refl; syncs = λ k d there. refl; files = grows_none kind into (stores dev) }
+pub leaves_all : {S : Type 0} (kind : StoreKind S) (into : Option PlaceView) (n : ℕ) (dev : Dev S) → LeavesStores kind into n (between dev dev)
+leaves_all kind into n dev = record { down = λ k d down. refl; syncs = λ k d there. refl; files = grows_none kind into n dev }
 
--- bytes went to one file
-pub leaves_put : {S : Type 0} (kind : StoreKind S) (t : Span S) (o : Option Handle) (file : Handle → ℕ) (h : Handle) (n : ℕ) → o ≡ Some h → n ≡ file h
-    → IsLeftDown t → OtherFilesStay kind t.before t.after n → SameSyncs kind t.before t.after → LeavesStores kind (option_map file o) t
-leaves_put kind t o file h n here is down others syncs = subst (λ (q : Option Handle). LeavesStores kind (option_map file q) t) (sym here) (record {
+-- bytes went to one place
+pub leaves_put : {S : Type 0} (kind : StoreKind S) (t : Span S) (o : Option Handle) (place : Handle → PlaceView) (h : Handle) (n : ℕ) (p : PlaceView)
+    → o ≡ Some h → p ≡ place h → IsLeftDown t → GrowsOnce kind t p n → SameSyncs kind t.before t.after → LeavesStores kind (option_map place o) n t
+leaves_put kind t o place h n p here is down grows syncs = subst (λ (q : Option Handle). LeavesStores kind (option_map place q) n t) (sym here) (record {
   down = down;
   syncs = syncs;
-  files = subst (λ (m : ℕ). OtherFilesStay kind t.before t.after m) is others;
+  files = subst (λ (q : PlaceView). GrowsOnce kind t q n) is grows;
 })

@@ -13,18 +13,21 @@ use Rattle.wtf_meta.specs.Reads.{ReadsFile}
 use Rattle.wtf_region.specs.declared.dev.Dev.{Dev}
 use Rattle.wtf_region.specs.Bases.{slices_of, bases_of, bases_in}
 use Rattle.wtf_region.specs.Devs.{remembered}
-use Rattle.wtf_steps.specs.Recalling.{RecallsFor, AreListsOf}
+use Rattle.wtf_region.proofs.Recalls.{recalls_same}
+use Rattle.wtf_steps.specs.Recalling.{ReadsFor, RecallsFor, AreListsOf}
 use Rattle.wtf_steps.proofs.ReadWays.{same_touched, reads_due}
 
 -- no list was read, where F allows that
+pub reads_none : (a : Answer) (F : List ListFact → Type 0) → F [] → ReadsFor a F []
+reads_none a F none = record { refused = λ h. refl; made = λ going. none }
+
 pub recalls_none : {S : Type 0} (kind : StoreKind S) (a : Answer) (F : List ListFact → Type 0) (old new : Dev S) → F [] → remembered new ≡ remembered old
     → RecallsFor kind a F old new
 recalls_none kind a F old new none same = record {
   facts = [];
-  recalls = same;
+  recalls = recalls_same kind old new same;
   known = λ ranges was told apart. tt;
-  refused = λ h. refl;
-  made = λ going. none;
+  reads = reads_none a F none;
 }
 
 -- the lists of a range, as it is due

@@ -8,22 +8,20 @@ use Rattle.wtf_meta.specs.Lists.{ListFact}
 use Rattle.wtf_meta.specs.Reads.{ReadsFile}
 use Rattle.wtf_region.specs.declared.dev.Dev.{Dev}
 use Rattle.wtf_region.specs.Bases.{slices_of, bases_in}
-use Rattle.wtf_region.specs.Cached.{recalled}
-use Rattle.wtf_region.specs.Devs.{remembered}
-use Rattle.wtf_region.specs.Reads.{TellsFacts}
+use Rattle.wtf_region.specs.Reads.{Recalls, TellsFacts}
 use Rattle.wtf_steps.specs.Steps.{IsRefusal}
 
--- these lists were asked for, one after another, and what is remembered is as that leaves it
-abbrev pub Recalls : {S : Type 0} → (old new : Dev S) → List ListFact → Type 0
-Recalls old new facts = remembered new ≡ recalled facts (remembered old)
-
--- a call that answered a read lists of which F holds, and the stores tell them; a refusal reads none
-pub record RecallsFor {S : Type 0} (kind : StoreKind S) (a : Answer) (F : List ListFact → Type 0) (old new : Dev S) : Type 0 where
-  pub facts : List ListFact
-  pub recalls : Recalls old new facts
-  pub known : TellsFacts kind old new facts
+-- of these lists F holds, where a call answered a; a refusal reads none
+pub record ReadsFor (a : Answer) (F : List ListFact → Type 0) (facts : List ListFact) : Type 0 where
   pub refused : IsRefusal a → facts ≡ []
   pub made : (IsRefusal a → ⊥) → F facts
+
+-- a call that answered a asked for lists of which F holds, and the stores tell them
+pub record RecallsFor {S : Type 0} (kind : StoreKind S) (a : Answer) (F : List ListFact → Type 0) (old new : Dev S) : Type 0 where
+  pub facts : List ListFact
+  pub recalls : Recalls kind old new facts
+  pub known : TellsFacts kind old new facts
+  pub reads : ReadsFor a F facts
 
 -- the lists of the bases under n bytes of a file from off on, in order, by which these are read
 pub record AreListsOf (b : ℕ) (v : FileView) (off n : ℕ) (facts : List ListFact) : Type 0 where
