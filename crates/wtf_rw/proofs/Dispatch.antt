@@ -1,6 +1,7 @@
 -- What any call does, from what its own does.
 use Rattle.std.proofs.Common.{◌≡◌, ℕ, true, false, ◌++◌, List, [], length, Option, None, Some, Result, Ok, Err, refl, sym, ◌∙◌, subst, append-nil}
 use Rattle.std.specs.Borrow.{Bor}
+use Rattle.std.specs.Option.{option_map}
 use Rattle.std.specs.Prelude.{IfOk, IfErr, OnOk, OnErr, IsSome}
 use Rattle.wtf_base.specs.declared.fault.Fault.{Fault}
 use Rattle.wtf_base.specs.declared.fault.Fault.TheVariants as fault
@@ -17,12 +18,11 @@ use Rattle.wtf_model.specs.declared.op.Op.TheVariants as op
 use Rattle.wtf_values.specs.declared.key.Key.{Key}
 use Rattle.wtf_values.specs.declared.value.Delta.{Delta}
 use Rattle.wtf_meta.specs.declared.session.Handle.{Handle}
-use Rattle.wtf_meta.specs.FileEdits.{file_of}
 use Rattle.wtf_meta.specs.Maps.{Map}
 use Rattle.wtf_meta.specs.Calls.{Caller, Did, InHand}
 use Rattle.wtf_meta.specs.Sessions.{SessionView, handle_in}
 use Rattle.wtf_region.specs.declared.dev.Dev.{Dev}
-use Rattle.wtf_region.specs.Devs.{IsSoundDev, GoesOn, stores, between, place_in}
+use Rattle.wtf_region.specs.Devs.{IsSoundDev, GoesOn, stores, between}
 use Rattle.wtf_region.proofs.Spans.{goes_nowhere}
 use Rattle.wtf_rw.specs.declared.op.Done.{Done}
 use Rattle.wtf_rw.specs.declared.op.Given.TheVariants.{Fresh, Stored}
@@ -42,10 +42,10 @@ use Rattle.wtf_steps.proofs.Recalling.{recalls_none}
 use Rattle.wtf_rw.specs.Called.{Looks, PutsBytes, ReadsBytes, RwOf, plain_of}
 use Rattle.wtf_rw.specs.Changed.{RwMade}
 use Rattle.wtf_rw.specs.Held.{RwHolds}
-use Rattle.wtf_rw.specs.Ops.{DoesRw, DoesPlain, IsPlainStep, IsRwOwn, OwnBy, LacksOwn, StoresNone, IsRwFault, IsBare, IsBareAnswer}
-use Rattle.wtf_rw.specs.Ops.{rw_keys, rw_file}
+use Rattle.wtf_rw.specs.Ops.{DoesRw, DoesPlain, IsPlainStep, IsRwOwn, OwnBy, LacksOwn, NeedsNoStore, IsRwFault, IsBare, IsBareAnswer}
+use Rattle.wtf_rw.specs.Ops.{place_at, place_at_end, rw_keys, rw_place, rw_len}
 use Rattle.wtf_rw.specs.Reads.{TellsRead, RwReads}
-use Rattle.wtf_rw.specs.Stored.{TellsOwn, IsOwn, end_place}
+use Rattle.wtf_rw.specs.Stored.{TellsOwn, IsOwn}
 
 -- less is known of what a call did
 weaker : (F G : Did → Type 0) (x : Caller) (b : Map) (old new : InHand) (o : Op (List ℕ)) (a : Answer) → ((did : Did) → F did → G did)
@@ -55,11 +55,6 @@ weaker F G x b old new o a less step = record { did = step.did; grows = step.gro
 -- the same call by another name
 pub named : {S : Type 0} (sc : Scene S) (old new : InHand) (o p : RwOp) (r : Result Done Fault) → o ≡ p → RwOf sc old new p r → RwOf sc old new o r
 named sc old new o p r is call = subst (λ (q : RwOp). RwOf sc old new q r) (sym is) call
-
--- a call that is lent no store
-abbrev pub IsPlain : RwOp → Type 0
-IsPlain (rw.Read f n) = ⊥
-IsPlain o = StoresNone o
 
 abbrev still : {S : Type 0} → StoreKind S → Dev S → Map → Scene S
 still kind dev w = record { kind = kind; before = dev; after = dev; map = w }
@@ -77,7 +72,7 @@ record IsStill {S : Type 0} (kind : StoreKind S) (dev : Dev S) (w : Map) (s : Se
   fault : IsRwFault kind dev dev w s p fault.Memory
 
 module _ {S : Type 0} (kind : StoreKind S) (dev : Dev S) (w : Map) (s : SessionView) where
-  is_still : (p : RwOp) → IsPlain p → IsStill kind dev w s p
+  is_still : (p : RwOp) → NeedsNoStore p → IsStill kind dev w s p
   is_still (rw.Open f p) plain = record { does = λ bytes did h. (h, refl); own = (refl, refl); reads = refl; lacks = λ a. tt; fault = refl }
   is_still (rw.Close f) plain = record { does = λ bytes did h. (h, refl); own = (refl, refl); reads = refl; lacks = λ a. tt; fault = refl }
   is_still (rw.Seek f place) plain = record { does = λ bytes did h. (h, refl); own = (refl, refl); reads = refl; lacks = λ a. tt; fault = refl }
@@ -106,10 +101,10 @@ pub record Plain (b : ℕ) (w : Map) (old new : InHand) (p : RwOp) (r : Result A
 
 plain_is : {S : Type 0} {kind : StoreKind S} → KindLaws kind → (dev : Dev S) → IsSoundDev kind dev
     → (w : Map) (old new : InHand) (p : RwOp) (r : Result Answer OutOfMemory)
-    → IsPlain p → Plain dev.settings.region w old new p r → RwOf (still kind dev w) old new p (plain_of r)
+    → NeedsNoStore p → Plain dev.settings.region w old new p r → RwOf (still kind dev w) old new p (plain_of r)
 plain_is {kind = kind} laws dev sound w old new p (Ok a) plain call =
     let all = is_still kind dev w old.session p plain in
-    let left = leaves_all kind None dev in
+    let left = leaves_all kind None 0 dev in
     record {
       keys = call.keys;
       step = λ x bytes size writes whole. weaker (DoesPlain p bytes) (DoesRw (still kind dev w) p None bytes) x w old new _ a (all.does bytes)
@@ -128,14 +123,15 @@ plain_is {kind = kind} laws dev sound w old new p (Ok a) plain call =
       due = tt;
       err = tt;
       grows = call.grows;
-      leaves = leaves_all kind (rw_file dev w old.session p) dev;
+      leaves = leaves_all kind (rw_place dev w old.session p) (rw_len p) dev;
+      still = λ needs. refl;
       reads = λ none. record { down = left.down; lengths = left.files; syncs = left.syncs };
       lists = λ none. refl;
       dev = goes_nowhere laws dev sound;
     }
 plain_is {kind = kind} laws dev sound w old new p (Err e) plain call =
     let all = is_still kind dev w old.session p plain in
-    let left = leaves_all kind None dev in
+    let left = leaves_all kind None 0 dev in
     record {
       keys = tt;
       step = tt;
@@ -153,7 +149,8 @@ plain_is {kind = kind} laws dev sound w old new p (Err e) plain call =
       due = λ bytes writes x told T size st h. tt;
       err = call.err;
       grows = call.grows;
-      leaves = leaves_all kind (rw_file dev w old.session p) dev;
+      leaves = leaves_all kind (rw_place dev w old.session p) (rw_len p) dev;
+      still = λ needs. refl;
       reads = λ none. record { down = left.down; lengths = left.files; syncs = left.syncs };
       lists = λ none. refl;
       dev = goes_nowhere laws dev sound;
@@ -161,7 +158,7 @@ plain_is {kind = kind} laws dev sound w old new p (Err e) plain call =
 
 pub plain_call : {S : Type 0} {kind : StoreKind S} → KindLaws kind → (dev : Dev S) → IsSoundDev kind dev
     → (w : Map) (old new : InHand) (o p : RwOp) (r : Result Answer OutOfMemory) (q : Result Done Fault)
-    → o ≡ p → q ≡ plain_of r → IsPlain p → Plain dev.settings.region w old new p r → RwOf (still kind dev w) old new o q
+    → o ≡ p → q ≡ plain_of r → NeedsNoStore p → Plain dev.settings.region w old new p r → RwOf (still kind dev w) old new o q
 plain_call {kind = kind} laws dev sound w old new o p r q is out plain call =
     named (still kind dev w) old new o p q is
     (subst (λ (u : Result Done Fault). RwOf (still kind dev w) old new p u) (sym out) (plain_is laws dev sound w old new p r plain call))
@@ -233,9 +230,9 @@ pub write_of : {S : Type 0} (kind : StoreKind S) (dev left : Dev S) (w : Map) (o
     → IsStepWith (TellsOwn kind (stores dev) (stores left) d.own) x b old new (op.Write f bs.now) d.answer)
     → IfOk r (λ d. Makes d.answer (RwMade dev.settings.region w old.session (rw.Write f (Fresh bs)) d.own) old.at new.at)
     → IfOk r (λ d. LeavesHand d.answer (RwHolds dev.settings.region w (rw.Write f (Fresh bs))) old.session new.session)
-    → IfOk r (λ d. (h : Handle) → handle_in old.session f ≡ Some h → IsOwn kind dev left (place_in dev h.inode h.off) bs.now d.own)
+    → IfOk r (λ d. (h : Handle) → handle_in old.session f ≡ Some h → IsOwn kind dev left (place_at dev h) bs.now d.own)
     → IfErr r (λ why. (b : Map) → MayFault dev.settings b old.session (op.Write f bs.now) why)
-    → LeavesStores kind (rw_file dev w old.session (rw.Write f (Fresh bs))) (between dev left)
+    → LeavesStores kind (option_map (place_at dev) (handle_in old.session f)) (length bs.now) (between dev left)
     → PutsBytes (record { kind = kind; before = dev; after = left }) old new (handle_in old.session f) bs.now r
     → RwOf (record { kind = kind; before = dev; after = left; map = w }) old new (rw.Write f (Fresh bs)) r
 write_of kind dev left w old new f bs (Ok d) keys step made holds own due leaves puts = record {
@@ -245,7 +242,7 @@ write_of kind dev left w old new f bs (Ok d) keys step made holds own due leaves
   made = made;
   holds = holds;
   recalls = recalls_none kind d.answer (RwReads dev.settings.region w old.session (rw.Write f (Fresh bs))) dev left refl puts.lists;
-  own = own_by kind dev left (handle_in old.session f) (λ h. place_in dev h.inode h.off) bs.now d.own own puts.closed;
+  own = own_by kind dev left (handle_in old.session f) (place_at dev) bs.now d.own own puts.closed;
   lacks = puts.lacks;
   done = puts.done;
   logged = puts.logged;
@@ -257,6 +254,7 @@ write_of kind dev left w old new f bs (Ok d) keys step made holds own due leaves
   err = tt;
   grows = puts.grows;
   leaves = leaves;
+  still = λ needs. absurd needs;
   reads = λ none. absurd none;
   lists = λ none. puts.lists;
   dev = puts.dev;
@@ -279,6 +277,7 @@ write_of kind dev left w old new f bs (Err why) keys step made holds own due lea
   err = puts.err;
   grows = puts.grows;
   leaves = leaves;
+  still = λ needs. absurd needs;
   reads = λ none. absurd none;
   lists = λ none. puts.lists;
   dev = puts.dev;
@@ -291,10 +290,9 @@ pub append_of : {S : Type 0} (kind : StoreKind S) (dev left : Dev S) (w : Map) (
     → IfOk r (λ d. (x : Caller) → x.size ≡ dev.settings.region → IsStepWith (TellsOwn kind (stores dev) (stores left) d.own) x w old new (op.Append f bs.now)
     d.answer)
     → IfOk r (λ d. Makes d.answer (RwMade dev.settings.region w old.session (rw.Append f (Fresh bs)) d.own) old.at new.at)
-    → IfOk r (λ d. (h : Handle) → handle_in old.session f ≡ Some h → IsOwn kind dev left
-    (place_in dev h.inode (end_place dev.settings.region (file_of h.inode w))) bs.now d.own)
+    → IfOk r (λ d. (h : Handle) → handle_in old.session f ≡ Some h → IsOwn kind dev left (place_at_end dev w h) bs.now d.own)
     → IfErr r (MayFault dev.settings w old.session (op.Append f bs.now))
-    → LeavesStores kind (rw_file dev w old.session (rw.Append f (Fresh bs))) (between dev left)
+    → LeavesStores kind (option_map (place_at_end dev w) (handle_in old.session f)) (length bs.now) (between dev left)
     → PutsBytes (record { kind = kind; before = dev; after = left }) old new (handle_in old.session f) bs.now r
     → RwOf (record { kind = kind; before = dev; after = left; map = w }) old new (rw.Append f (Fresh bs)) r
 append_of kind dev left w old new f bs (Ok d) same keys step made own due leaves puts = record {
@@ -304,8 +302,7 @@ append_of kind dev left w old new f bs (Ok d) same keys step made own due leaves
   made = made;
   holds = record { refused = λ h. same; made = λ going. same };
   recalls = recalls_none kind d.answer (RwReads dev.settings.region w old.session (rw.Append f (Fresh bs))) dev left refl puts.lists;
-  own = own_by kind dev left (handle_in old.session f) (λ h. place_in dev h.inode (end_place dev.settings.region (file_of h.inode w))) bs.now d.own own
-      puts.closed;
+  own = own_by kind dev left (handle_in old.session f) (place_at_end dev w) bs.now d.own own puts.closed;
   lacks = puts.lacks;
   done = puts.done;
   logged = puts.logged;
@@ -317,6 +314,7 @@ append_of kind dev left w old new f bs (Ok d) same keys step made own due leaves
   err = tt;
   grows = puts.grows;
   leaves = leaves;
+  still = λ needs. absurd needs;
   reads = λ none. absurd none;
   lists = λ none. puts.lists;
   dev = puts.dev;
@@ -339,6 +337,7 @@ append_of kind dev left w old new f bs (Err why) same keys step made own due lea
   err = puts.err;
   grows = puts.grows;
   leaves = leaves;
+  still = λ needs. absurd needs;
   reads = λ none. absurd none;
   lists = λ none. puts.lists;
   dev = puts.dev;
@@ -371,7 +370,8 @@ read_of kind dev left w old new f n (Ok d) step holds recalls fault due reads go
   due = tt;
   err = tt;
   grows = reads.grows;
-  leaves = leaves_read kind (between dev left) reads.reads;
+  leaves = leaves_read kind (between dev left) 0 reads.reads;
+  still = λ needs. absurd needs;
   reads = λ none. reads.reads;
   lists = λ none. absurd none;
   dev = goes;
@@ -393,7 +393,8 @@ read_of kind dev left w old new f n (Err why) step holds recalls fault due reads
   due = λ bytes writes. due;
   err = reads.err;
   grows = reads.grows;
-  leaves = leaves_read kind (between dev left) reads.reads;
+  leaves = leaves_read kind (between dev left) 0 reads.reads;
+  still = λ needs. absurd needs;
   reads = λ none. reads.reads;
   lists = λ none. absurd none;
   dev = goes;

@@ -24,7 +24,7 @@ use Rattle.wtf_rw.specs.declared.op.Done.{Done}
 use Rattle.wtf_rw.specs.declared.op.RwOp.{RwOp}
 use Rattle.wtf_rw.specs.Changed.{RwMade}
 use Rattle.wtf_rw.specs.Held.{RwHolds}
-use Rattle.wtf_rw.specs.Ops.{IsRwStep, IsRwOwn, LacksOwn, StoresNone, IsRwFault, MayRwFault, IsBare, IsBareAnswer, rw_keys, rw_file}
+use Rattle.wtf_rw.specs.Ops.{IsRwStep, IsRwOwn, LacksOwn, StoresNone, IsRwFault, MayRwFault, IsBare, IsBareAnswer, NeedsNoStore, rw_keys, rw_place, rw_len}
 use Rattle.wtf_rw.specs.Reads.{RwReads, ReadsNoList}
 use Rattle.wtf_rw.specs.Stored.{IsPutFault}
 
@@ -97,7 +97,8 @@ pub record RwOf {S : Type 0} (sc : Scene S) (old new : InHand) (o : RwOp) (r : R
   pub due : IfErr r (MayRwFault sc.before.settings sc.map old.session o)
   pub err : OnErr r (new.session ≡ old.session)
   pub grows : Grows old.at new.at
-  pub leaves : LeavesStores sc.kind (rw_file sc.before sc.map old.session o) (between sc.before sc.after)
+  pub leaves : LeavesStores sc.kind (rw_place sc.before sc.map old.session o) (rw_len o) (between sc.before sc.after)
+  pub still : NeedsNoStore o → sc.after ≡ sc.before
   pub reads : StoresNone o → OnlyRead sc.kind (between sc.before sc.after)
   pub lists : ReadsNoList o → remembered sc.after ≡ remembered sc.before
   pub dev : GoesOn sc.kind sc.before sc.after []

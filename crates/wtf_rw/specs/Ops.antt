@@ -129,17 +129,34 @@ abbrev pub IsPlainStep : ℕ → Map → (old new : InHand) → RwOp → Answer 
 IsPlainStep b w old new o a =
     (x : Caller) (bytes : List ℕ) → x.size ≡ b → Writes o bytes → IsWhole o → IsStepWith (DoesPlain o bytes) x w old new (op_of o bytes) a
 
+-- where the bytes that a write and an append store go: to the region of the handle's offset, and to that of the file's end
+abbrev pub place_at : {S : Type 0} → Dev S → Handle → PlaceView
+place_at dev h = place_in dev h.inode h.off
+
+abbrev pub place_at_end : {S : Type 0} → Dev S → Map → Handle → PlaceView
+place_at_end dev w h = place_in dev h.inode (end_place dev.settings.region (file_of h.inode w))
+
+-- of a call, if it is to store some for a handle that is open
+abbrev pub rw_place : {S : Type 0} → Dev S → Map → SessionView → RwOp → Option PlaceView
+rw_place dev w s (rw.Write f (Fresh bs)) = option_map (place_at dev) (handle_in s f)
+rw_place dev w s (rw.Append f (Fresh bs)) = option_map (place_at_end dev w) (handle_in s f)
+rw_place dev w s o = None
+
+-- how many bytes a call is to store
+abbrev pub rw_len : RwOp → ℕ
+rw_len (rw.Write f (Fresh bs)) = length bs.now
+rw_len (rw.Append f (Fresh bs)) = length bs.now
+rw_len o = 0
+
 -- what came of the bytes that a call was to store, by its handle: with none open nothing was lent for writing
 abbrev pub OwnBy : {S : Type 0} → StoreKind S → (old new : Dev S) → Option Handle → (Handle → PlaceView) → List ℕ → Option Slice → Type 0
 OwnBy kind old new None place bytes own = (new ≡ old) × (own ≡ None)
 OwnBy kind old new (Some h) place bytes own = IsOwn kind old new (place h) bytes own
 
--- and of a call: bytes that are written go to the region of the handle's offset, and those that are appended to that of the
--- file's end
+-- and of a call
 abbrev pub IsRwOwn : {S : Type 0} → StoreKind S → (old new : Dev S) → Map → SessionView → RwOp → Option Slice → Type 0
-IsRwOwn kind old new w s (rw.Write f (Fresh bs)) own = OwnBy kind old new (handle_in s f) (λ h. place_in old h.inode h.off) bs.now own
-IsRwOwn kind old new w s (rw.Append f (Fresh bs)) own =
-    OwnBy kind old new (handle_in s f) (λ h. place_in old h.inode (end_place old.settings.region (file_of h.inode w))) bs.now own
+IsRwOwn kind old new w s (rw.Write f (Fresh bs)) own = OwnBy kind old new (handle_in s f) (place_at old) bs.now own
+IsRwOwn kind old new w s (rw.Append f (Fresh bs)) own = OwnBy kind old new (handle_in s f) (place_at_end old w) bs.now own
 IsRwOwn kind old new w s (rw.Read f n) own = own ≡ None
 IsRwOwn kind old new w s o own = (new ≡ old) × (own ≡ None)
 
@@ -149,23 +166,18 @@ LacksOwn (rw.Write f (Fresh bs)) own a = own ≡ None → (length bs.now ≡ 0) 
 LacksOwn (rw.Append f (Fresh bs)) own a = own ≡ None → (length bs.now ≡ 0) ⊎ IsRefusal a
 LacksOwn o own a = ⊤
 
--- the file of the stores to which its bytes go, if it is to store some for a handle that is open
-abbrev pub file_in : {S : Type 0} → Dev S → Handle → ℕ
-file_in dev h = (place_in dev h.inode h.off).file
-
-abbrev pub file_at_end : {S : Type 0} → Dev S → Map → Handle → ℕ
-file_at_end dev w h = (place_in dev h.inode (end_place dev.settings.region (file_of h.inode w))).file
-
-abbrev pub rw_file : {S : Type 0} → Dev S → Map → SessionView → RwOp → Option ℕ
-rw_file dev w s (rw.Write f (Fresh bs)) = option_map (file_in dev) (handle_in s f)
-rw_file dev w s (rw.Append f (Fresh bs)) = option_map (file_at_end dev w) (handle_in s f)
-rw_file dev w s o = None
-
 -- a call that is to store no byte
 abbrev pub StoresNone : RwOp → Type 0
 StoresNone (rw.Write f (Fresh bs)) = ⊥
 StoresNone (rw.Append f (Fresh bs)) = ⊥
 StoresNone o = ⊤
+
+-- a call that needs neither bytes nor lists of the stores, and stores none there
+abbrev pub NeedsNoStore : RwOp → Type 0
+NeedsNoStore (rw.Read f n) = ⊥
+NeedsNoStore (rw.Write f (Fresh bs)) = ⊥
+NeedsNoStore (rw.Append f (Fresh bs)) = ⊥
+NeedsNoStore o = ⊤
 
 -- why a call gave a fault; memory may be short at any time
 abbrev pub IsRwFault : {S : Type 0} → StoreKind S → (old new : Dev S) → Map → SessionView → RwOp → Fault → Type 0

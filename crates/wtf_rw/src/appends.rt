@@ -7,16 +7,15 @@ ghost use Rattle.wtf_model.specs.declared.limits.TheConstants.{MAX_HANDLES, MAX_
 ghost use Rattle.wtf_meta.specs.declared.session.Handle as handle;
 ghost use Rattle.wtf_meta.specs.Maps.{seen};
 ghost use Rattle.wtf_meta.specs.Files.{FileView};
-ghost use Rattle.wtf_meta.specs.FileEdits.{file_of};
 ghost use Rattle.wtf_meta.specs.Sessions.{handle_in};
 ghost use Rattle.wtf_meta.specs.Calls.{Caller};
-ghost use Rattle.wtf_region.specs.Devs.{IsSoundDev, stores, place_in, between};
+ghost use Rattle.wtf_region.specs.Devs.{IsSoundDev, stores, between};
 ghost use Rattle.wtf_region.specs.Edited.{IsFileEnd, LacksRoom};
 ghost use Rattle.wtf_steps.specs.Recorded.{append_keys};
 ghost use Rattle.wtf_steps.specs.Steps.{in_hand, IsStepWith};
 ghost use Rattle.wtf_steps.specs.Made.{Makes, AddsAt};
 ghost use Rattle.wtf_rw.specs.Called.{PutsBytes, Alters};
-ghost use Rattle.wtf_rw.specs.Ops.{IsPlainStep, IsBareAnswer, file_at_end};
+ghost use Rattle.wtf_rw.specs.Ops.{IsPlainStep, IsBareAnswer, place_at_end};
 ghost use Rattle.wtf_rw.specs.Stored.{TellsOwn, IsOwn, HasRoom, end_place};
 ghost use Rattle.wtf_rw.specs.Changed.{OfSlice};
 ghost use Rattle.wtf_steps.specs.Faults.{MayFault};
@@ -85,13 +84,13 @@ pub(crate) fn append_fresh<S: SliceStore>(
     ensures made { IfOk result (λ d. Makes d.answer (OfSlice d.own (AddsAt
         dev.old.settings.region (seen kv.now at.old) (handle_in s.now f))) at.old at.new) }
     ensures own { IfOk result (λ d. (h : handle.Handle) → handle_in s.now f ≡ Some h →
-        IsOwn S.kind dev.old dev.new (place_in dev.old h.inode (end_place
-        dev.old.settings.region (file_of h.inode (seen kv.now at.old)))) bytes.now d.own) }
+        IsOwn S.kind dev.old dev.new (place_at_end dev.old (seen kv.now at.old) h)
+        bytes.now d.own) }
     ensures due { IfErr result (MayFault dev.old.settings (seen kv.now at.old) s.now
         (Op.Append f bytes.now)) }
     ensures leaves { LeavesStores S.kind
-        (option_map (file_at_end dev.old (seen kv.now at.old)) (handle_in s.now f))
-        (between dev.old dev.new) }
+        (option_map (place_at_end dev.old (seen kv.now at.old)) (handle_in s.now f))
+        (length bytes.now) (between dev.old dev.new) }
     ensures puts { PutsBytes (record { kind = S.kind; before = dev.old; after = dev.new })
         (in_hand at.old s.now) (in_hand at.new s.now) (handle_in s.now f) bytes.now result }
 {

@@ -9,13 +9,13 @@ ghost use Rattle.wtf_meta.specs.declared.session.Handle as handle;
 ghost use Rattle.wtf_meta.specs.Maps.{Map};
 ghost use Rattle.wtf_meta.specs.Sessions.{handle_in, SetsHandle, moved_to};
 ghost use Rattle.wtf_meta.specs.Calls.{Caller};
-ghost use Rattle.wtf_region.specs.Devs.{IsSoundDev, stores, place_in, between};
+ghost use Rattle.wtf_region.specs.Devs.{IsSoundDev, stores, between};
 ghost use Rattle.wtf_region.specs.Edited.{Edited, LaysPieces};
 ghost use Rattle.wtf_steps.specs.Steps.{in_hand, IsStepWith};
 ghost use Rattle.wtf_steps.specs.Made.{Makes, LaysAt};
 ghost use Rattle.wtf_rw.specs.Called.{PutsBytes, Alters};
 ghost use Rattle.wtf_rw.specs.Held.{held_len};
-ghost use Rattle.wtf_rw.specs.Ops.{IsPlainStep, IsBareAnswer, file_in};
+ghost use Rattle.wtf_rw.specs.Ops.{IsPlainStep, IsBareAnswer, place_at};
 ghost use Rattle.wtf_rw.specs.Stored.{TellsOwn, IsOwn};
 ghost use Rattle.wtf_rw.specs.Changed.{OfSlice};
 ghost use Rattle.wtf_steps.specs.Faults.{MayFault};
@@ -98,11 +98,11 @@ pub(crate) fn write_fresh<S: SliceStore>(
     ensures holds { IfOk result (λ d.
         LeavesHand d.answer (MovesOn f (λ h. length bytes.now)) s.old s.new) }
     ensures own { IfOk result (λ d. (h : handle.Handle) → handle_in s.old f ≡ Some h →
-        IsOwn S.kind dev.old dev.new (place_in dev.old h.inode h.off) bytes.now d.own) }
+        IsOwn S.kind dev.old dev.new (place_at dev.old h) bytes.now d.own) }
     ensures due { IfErr result (λ why. (b : Map) →
         MayFault dev.old.settings b s.old (Op.Write f bytes.now) why) }
-    ensures leaves { LeavesStores S.kind (option_map (file_in dev.old) (handle_in s.old f))
-        (between dev.old dev.new) }
+    ensures leaves { LeavesStores S.kind (option_map (place_at dev.old) (handle_in s.old f))
+        (length bytes.now) (between dev.old dev.new) }
     ensures puts { PutsBytes (record { kind = S.kind; before = dev.old; after = dev.new })
         (in_hand at.old s.old) (in_hand at.new s.new) (handle_in s.old f) bytes.now result }
 {

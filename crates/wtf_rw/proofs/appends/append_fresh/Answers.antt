@@ -28,7 +28,7 @@ use Rattle.std.specs.Option.{option_map}
 use Rattle.wtf_region.proofs.Spans.{goes_nowhere}
 use Rattle.wtf_steps.specs.Steps.{in_hand, IsRefusal}
 use Rattle.wtf_steps.proofs.Leaving.{leaves_all, leaves_put}
-use Rattle.wtf_rw.specs.Ops.{file_at_end}
+use Rattle.wtf_rw.specs.Ops.{place_at_end}
 use Rattle.wtf_rw.specs.Stored.{HasRoom, ArePieces, IsOwn, end_place}
 use Rattle.wtf_model.proofs.ByteLaws.{append-none}
 use Rattle.wtf_steps.proofs.Ways.{no_handle, spot_open, spot_closed}
@@ -273,22 +273,26 @@ ends_at r k n is at = subst (λ (o : Option ℕ). IfSome o (λ j. j ≡ n)) is a
 pub returns-in_default-clause-leaves : goal.returns-in_default-clause-leaves
 returns-in_default-clause-leaves g c =
     let dev = c.args.dev.now in
-    leaves_all g.S.SliceStore.kind (option_map (file_at_end dev (seen c.args.kv.now c.args.at.now)) (handle_in c.args.s.now c.args.f)) dev
+    leaves_all g.S.SliceStore.kind (option_map (place_at_end dev (seen c.args.kv.now c.args.at.now)) (handle_in c.args.s.now c.args.f))
+    (length c.args.bytes.now) dev
 
 pub returns-then-len-eq0-clause-leaves : goal.returns-then-len-eq0-clause-leaves
 returns-then-len-eq0-clause-leaves g c =
     let dev = c.args.dev.now in
-    leaves_all g.S.SliceStore.kind (option_map (file_at_end dev (seen c.args.kv.now c.args.at.now)) (handle_in c.args.s.now c.args.f)) dev
+    leaves_all g.S.SliceStore.kind (option_map (place_at_end dev (seen c.args.kv.now c.args.at.now)) (handle_in c.args.s.now c.args.f))
+    (length c.args.bytes.now) dev
 
 pub returns-in-Ok-clause-leaves : goal.returns-in-Ok-clause-leaves
 returns-in-Ok-clause-leaves g c =
     let dev = c.args.dev.now in
-    leaves_all g.S.SliceStore.kind (option_map (file_at_end dev (seen c.args.kv.now c.args.at.now)) (handle_in c.args.s.now c.args.f)) dev
+    leaves_all g.S.SliceStore.kind (option_map (place_at_end dev (seen c.args.kv.now c.args.at.now)) (handle_in c.args.s.now c.args.f))
+    (length c.args.bytes.now) dev
 
 pub returns-in-Err-clause-leaves : goal.returns-in-Err-clause-leaves
 returns-in-Err-clause-leaves g c =
     let dev = c.args.dev.now in
-    leaves_all g.S.SliceStore.kind (option_map (file_at_end dev (seen c.args.kv.now c.args.at.now)) (handle_in c.args.s.now c.args.f)) dev
+    leaves_all g.S.SliceStore.kind (option_map (place_at_end dev (seen c.args.kv.now c.args.at.now)) (handle_in c.args.s.now c.args.f))
+    (length c.args.bytes.now) dev
 
 pub returns-in-Err-store_bytes-clause-leaves : goal.returns-in-Err-store_bytes-clause-leaves
 returns-in-Err-store_bytes-clause-leaves g c =
@@ -300,9 +304,10 @@ returns-in-Err-store_bytes-clause-leaves g c =
     let at_end : c.in-Some-room.off ≡ end_place dev.settings.region (file_of i w) = ends_at c.room.result c.in-Some-room.off
     (end_place dev.settings.region (file_of i w)) c.in-Some-room.is
     (c.room.ensures.place (file_of i w) c.file_end-end.ensures.end) in
-    leaves_put g.S.SliceStore.kind (between dev c.store_bytes.new.dev) o (file_at_end dev w) open_at.handle (place_in dev i c.in-Some-room.off).file open_at.is
-    (ap (λ (n : ℕ). (place_in dev i n).file) at_end ∙ ap (λ (j : InodeId). (place_in dev j (end_place dev.settings.region (file_of j w))).file) open_at.inode)
-    c.in-Err-store_bytes.ensures.down c.in-Err-store_bytes.ensures.others c.in-Err-store_bytes.ensures.syncs
+    leaves_put g.S.SliceStore.kind (between dev c.store_bytes.new.dev) o (place_at_end dev w) open_at.handle (length c.args.bytes.now)
+    (place_in dev i c.in-Some-room.off) open_at.is
+    (ap (λ (n : ℕ). place_in dev i n) at_end ∙ ap (λ (j : InodeId). place_in dev j (end_place dev.settings.region (file_of j w))) open_at.inode)
+    c.in-Err-store_bytes.ensures.down c.in-Err-store_bytes.ensures.grows c.in-Err-store_bytes.ensures.syncs
 
 pub returns-in-Ok-add_at-clause-leaves : goal.returns-in-Ok-add_at-clause-leaves
 returns-in-Ok-add_at-clause-leaves g c =
@@ -314,9 +319,10 @@ returns-in-Ok-add_at-clause-leaves g c =
     let at_end : c.in-Some-room.off ≡ end_place dev.settings.region (file_of i w) = ends_at c.room.result c.in-Some-room.off
     (end_place dev.settings.region (file_of i w)) c.in-Some-room.is
     (c.room.ensures.place (file_of i w) c.file_end-end.ensures.end) in
-    leaves_put g.S.SliceStore.kind (between dev c.store_bytes.new.dev) o (file_at_end dev w) open_at.handle (place_in dev i c.in-Some-room.off).file open_at.is
-    (ap (λ (n : ℕ). (place_in dev i n).file) at_end ∙ ap (λ (j : InodeId). (place_in dev j (end_place dev.settings.region (file_of j w))).file) open_at.inode)
-    c.in-Ok-store_bytes.ensures.down c.in-Ok-store_bytes.ensures.others c.in-Ok-store_bytes.ensures.syncs
+    leaves_put g.S.SliceStore.kind (between dev c.store_bytes.new.dev) o (place_at_end dev w) open_at.handle (length c.args.bytes.now)
+    (place_in dev i c.in-Some-room.off) open_at.is
+    (ap (λ (n : ℕ). place_in dev i n) at_end ∙ ap (λ (j : InodeId). place_in dev j (end_place dev.settings.region (file_of j w))) open_at.inode)
+    c.in-Ok-store_bytes.ensures.down c.in-Ok-store_bytes.ensures.grows c.in-Ok-store_bytes.ensures.syncs
 
 pub returns-in-Err-add_at-clause-leaves : goal.returns-in-Err-add_at-clause-leaves
 returns-in-Err-add_at-clause-leaves g c =
@@ -328,9 +334,10 @@ returns-in-Err-add_at-clause-leaves g c =
     let at_end : c.in-Some-room.off ≡ end_place dev.settings.region (file_of i w) = ends_at c.room.result c.in-Some-room.off
     (end_place dev.settings.region (file_of i w)) c.in-Some-room.is
     (c.room.ensures.place (file_of i w) c.file_end-end.ensures.end) in
-    leaves_put g.S.SliceStore.kind (between dev c.store_bytes.new.dev) o (file_at_end dev w) open_at.handle (place_in dev i c.in-Some-room.off).file open_at.is
-    (ap (λ (n : ℕ). (place_in dev i n).file) at_end ∙ ap (λ (j : InodeId). (place_in dev j (end_place dev.settings.region (file_of j w))).file) open_at.inode)
-    c.in-Ok-store_bytes.ensures.down c.in-Ok-store_bytes.ensures.others c.in-Ok-store_bytes.ensures.syncs
+    leaves_put g.S.SliceStore.kind (between dev c.store_bytes.new.dev) o (place_at_end dev w) open_at.handle (length c.args.bytes.now)
+    (place_in dev i c.in-Some-room.off) open_at.is
+    (ap (λ (n : ℕ). place_in dev i n) at_end ∙ ap (λ (j : InodeId). place_in dev j (end_place dev.settings.region (file_of j w))) open_at.inode)
+    c.in-Ok-store_bytes.ensures.down c.in-Ok-store_bytes.ensures.grows c.in-Ok-store_bytes.ensures.syncs
 
 pub returns-in_default-clause-puts : goal.returns-in_default-clause-puts
 returns-in_default-clause-puts g c =

@@ -55,6 +55,7 @@ returns-in-Err-clause-call g c =
       grows = subst (λ (at : Attempted Key Delta). Grows was at) (sym (c.rewind.ensures.back was call.grows c.mark-mark.ensures))
           (Grows-by was was [] [] (GrowsBy-nothing was));
       leaves = call.leaves;
+      still = call.still;
       reads = call.reads;
       lists = call.lists;
       dev = call.dev;

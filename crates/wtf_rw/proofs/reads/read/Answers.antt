@@ -22,10 +22,11 @@ use Rattle.wtf_meta.specs.Appends.{keys_of, region_keys, touched, length_keys}
 use Rattle.wtf_meta.specs.Sessions.{handle_in, SetsHandle, moved_to}
 use Rattle.wtf_meta.specs.Calls.{cap_for, IsCall}
 use Rattle.wtf_meta.proofs.Named.{file_bytes}
-use Rattle.wtf_region.specs.Devs.{stores, is_down_in, inside_of, between}
+use Rattle.wtf_region.specs.Devs.{stores, inside_of, between}
 use Rattle.wtf_region.specs.Reads.{IsFileRead}
 use Rattle.wtf_region.specs.Showing.{Shown, IsShowFault, pieces_in, AreReadable}
 use Rattle.wtf_region.proofs.InsideLaws.{readable_from}
+use Rattle.wtf_region.proofs.Recalls.{recalls_same}
 use Rattle.wtf_region.proofs.Recording.{still_seen}
 use Rattle.wtf_region.proofs.ListReads.{pieces_inside, file_read_later}
 use Rattle.wtf_region.proofs.ShowLaws.{reads_over}
@@ -140,8 +141,8 @@ show-requires-clause-readable g c =
     let inside : PiecesBytes (inside_of kind mid) ps =
     pieces_inside g.met.S.SliceStore.laws c.requires.sound c.in-Ok-pieces.ensures.dev (file_of i u) file c.range_start-from.result c.found_len-k.result ps
     c.in-Ok-pieces.ensures.read in
-    subst (λ (qs : List Piece). AreReadable kind (is_down_in mid) (stores mid) qs) (sym c.as_slice.ensures.value)
-    (readable_from kind (is_down_in mid) (stores mid) mid.settings ps c.in-Ok-pieces.ensures.dev.sound.shelf inside)
+    subst (λ (qs : List Piece). AreReadable kind mid qs) (sym c.as_slice.ensures.value)
+    (readable_from kind mid ps c.in-Ok-pieces.ensures.dev.sound inside)
 
 pub returns-in-Err-show-clause-fault : goal.returns-in-Err-show-clause-fault
 returns-in-Err-show-clause-fault g c =
@@ -383,13 +384,14 @@ returns-clause-reads g c =
     }
 
 pub returns-in_default-clause-recalls : goal.returns-in_default-clause-recalls
-returns-in_default-clause-recalls g c = record {
-  facts = [];
-  recalls = refl;
-  known = λ ranges was told apart. tt;
-  refused = λ h. refl;
-  made = λ going. absurd (going tt);
-}
+returns-in_default-clause-recalls g c =
+    let dev = c.args.dev.now in
+    record {
+      facts = [];
+      recalls = recalls_same g.S.SliceStore.kind dev dev refl;
+      known = λ ranges was told apart. tt;
+      reads = record { refused = λ h. refl; made = λ going. absurd (going tt) };
+    }
 
 pub returns-clause-recalls : goal.returns-clause-recalls
 returns-clause-recalls g c =
@@ -415,11 +417,13 @@ returns-clause-recalls g c =
       facts = went.facts;
       recalls = went.recalls;
       known = went.told;
-      refused = λ h. absurd h;
-      made = λ going. (
-        h,
-        open_at.is,
-        lists_due z u b h i c.in-Some.spot.off from k (found_in z b h c.args.n) went.facts ps same open_at.inode open_at.off c.range_start-from.ensures.some
-            count went.wants went.reads,
-      );
+      reads = record {
+        refused = λ h. absurd h;
+        made = λ going. (
+          h,
+          open_at.is,
+          lists_due z u b h i c.in-Some.spot.off from k (found_in z b h c.args.n) went.facts ps same open_at.inode open_at.off
+              c.range_start-from.ensures.some count went.wants went.reads,
+        );
+      };
     }

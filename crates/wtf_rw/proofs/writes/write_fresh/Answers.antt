@@ -28,7 +28,7 @@ use Rattle.wtf_steps.specs.Made.{LaysAt}
 use Rattle.wtf_steps.specs.Holding.{MovesOn}
 use Rattle.wtf_steps.proofs.Handing.{hand_refused, hand_stays, hand_goes, moves_on, moves_nowhere}
 use Rattle.wtf_steps.proofs.Leaving.{leaves_all, leaves_put}
-use Rattle.wtf_rw.specs.Ops.{file_in}
+use Rattle.wtf_rw.specs.Ops.{place_at}
 use Rattle.wtf_rw.specs.Stored.{IsOwn}
 use Rattle.wtf_steps.proofs.Making.{makes_refused, lays_none, makes_laid}
 use Rattle.wtf_rw.specs.Changed.{OfSlice}
@@ -180,18 +180,20 @@ returns-in-Ok-lay-clause-holds g c =
     (moves_on f (c.in-Some.spot.off + p.len) n s t open_at.handle open_at.is (omega (arith, open_at.off, len)) c.in-Ok-lay.ensures.moved)
 
 -- the bytes go where the handle stands
-same_place : {S : Type 0} (dev : Dev S) (k : Spot) (h : Handle) → k.inode ≡ h.inode → k.off ≡ h.off → (place_in dev k.inode k.off).file ≡ file_in dev h
-same_place dev k h inode off = ap (λ (i : InodeId). (place_in dev i k.off).file) inode ∙ ap (λ (n : ℕ). (place_in dev h.inode n).file) off
+same_place : {S : Type 0} (dev : Dev S) (k : Spot) (h : Handle) → k.inode ≡ h.inode → k.off ≡ h.off → place_in dev k.inode k.off ≡ place_at dev h
+same_place dev k h inode off = ap (λ (i : InodeId). place_in dev i k.off) inode ∙ ap (λ (n : ℕ). place_in dev h.inode n) off
 
 pub returns-in_default-clause-leaves : goal.returns-in_default-clause-leaves
-returns-in_default-clause-leaves g c = leaves_all g.S.SliceStore.kind (option_map (file_in c.args.dev.now) (handle_in c.args.s.now c.args.f)) c.args.dev.now
+returns-in_default-clause-leaves g c = leaves_all g.S.SliceStore.kind (option_map (place_at c.args.dev.now) (handle_in c.args.s.now c.args.f))
+    (length c.args.bytes.now) c.args.dev.now
 
 pub returns-then-len-eq0-clause-leaves : goal.returns-then-len-eq0-clause-leaves
-returns-then-len-eq0-clause-leaves g c = leaves_all g.S.SliceStore.kind (option_map (file_in c.args.dev.now) (handle_in c.args.s.now c.args.f)) c.args.dev.now
+returns-then-len-eq0-clause-leaves g c = leaves_all g.S.SliceStore.kind (option_map (place_at c.args.dev.now) (handle_in c.args.s.now c.args.f))
+    (length c.args.bytes.now) c.args.dev.now
 
 pub returns-then-not-ends_within-clause-leaves : goal.returns-then-not-ends_within-clause-leaves
-returns-then-not-ends_within-clause-leaves g c = leaves_all g.S.SliceStore.kind (option_map (file_in c.args.dev.now) (handle_in c.args.s.now c.args.f))
-    c.args.dev.now
+returns-then-not-ends_within-clause-leaves g c = leaves_all g.S.SliceStore.kind (option_map (place_at c.args.dev.now)
+    (handle_in c.args.s.now c.args.f)) (length c.args.bytes.now) c.args.dev.now
 
 pub returns-in-Err-clause-leaves : goal.returns-in-Err-clause-leaves
 returns-in-Err-clause-leaves g c =
@@ -199,9 +201,9 @@ returns-in-Err-clause-leaves g c =
     let dev = c.args.dev.now in
     let spot = c.in-Some.spot in
     let open_at = spot_open c.handle_of.result o spot c.handle_of.ensures c.in-Some.is in
-    leaves_put g.S.SliceStore.kind (between dev c.store_bytes.new.dev) o (file_in dev) open_at.handle (place_in dev spot.inode spot.off).file open_at.is
-    (same_place dev spot open_at.handle open_at.inode open_at.off)
-    c.in-Err.ensures.down c.in-Err.ensures.others c.in-Err.ensures.syncs
+    leaves_put g.S.SliceStore.kind (between dev c.store_bytes.new.dev) o (place_at dev) open_at.handle (length c.args.bytes.now)
+    (place_in dev spot.inode spot.off) open_at.is (same_place dev spot open_at.handle open_at.inode open_at.off)
+    c.in-Err.ensures.down c.in-Err.ensures.grows c.in-Err.ensures.syncs
 
 pub returns-in-Ok-lay-clause-leaves : goal.returns-in-Ok-lay-clause-leaves
 returns-in-Ok-lay-clause-leaves g c =
@@ -209,9 +211,9 @@ returns-in-Ok-lay-clause-leaves g c =
     let dev = c.args.dev.now in
     let spot = c.in-Some.spot in
     let open_at = spot_open c.handle_of.result o spot c.handle_of.ensures c.in-Some.is in
-    leaves_put g.S.SliceStore.kind (between dev c.store_bytes.new.dev) o (file_in dev) open_at.handle (place_in dev spot.inode spot.off).file open_at.is
-    (same_place dev spot open_at.handle open_at.inode open_at.off)
-    c.in-Ok.ensures.down c.in-Ok.ensures.others c.in-Ok.ensures.syncs
+    leaves_put g.S.SliceStore.kind (between dev c.store_bytes.new.dev) o (place_at dev) open_at.handle (length c.args.bytes.now)
+    (place_in dev spot.inode spot.off) open_at.is (same_place dev spot open_at.handle open_at.inode open_at.off)
+    c.in-Ok.ensures.down c.in-Ok.ensures.grows c.in-Ok.ensures.syncs
 
 pub returns-in-Err-lay-clause-leaves : goal.returns-in-Err-lay-clause-leaves
 returns-in-Err-lay-clause-leaves g c =
@@ -219,9 +221,9 @@ returns-in-Err-lay-clause-leaves g c =
     let dev = c.args.dev.now in
     let spot = c.in-Some.spot in
     let open_at = spot_open c.handle_of.result o spot c.handle_of.ensures c.in-Some.is in
-    leaves_put g.S.SliceStore.kind (between dev c.store_bytes.new.dev) o (file_in dev) open_at.handle (place_in dev spot.inode spot.off).file open_at.is
-    (same_place dev spot open_at.handle open_at.inode open_at.off)
-    c.in-Ok.ensures.down c.in-Ok.ensures.others c.in-Ok.ensures.syncs
+    leaves_put g.S.SliceStore.kind (between dev c.store_bytes.new.dev) o (place_at dev) open_at.handle (length c.args.bytes.now)
+    (place_in dev spot.inode spot.off) open_at.is (same_place dev spot open_at.handle open_at.inode open_at.off)
+    c.in-Ok.ensures.down c.in-Ok.ensures.grows c.in-Ok.ensures.syncs
 
 pub returns-in_default-clause-puts : goal.returns-in_default-clause-puts
 returns-in_default-clause-puts g c =
