@@ -12,6 +12,7 @@ use Rattle.wtf_meta.specs.Sessions.{SessionView}
 use Rattle.wtf_meta.specs.Calls.{InHand}
 use Rattle.wtf_region.specs.Bases.{slices_of, bases_of, bases_in}
 use Rattle.wtf_region.specs.Devs.{remembered}
+use Rattle.wtf_region.proofs.Recalls.{recalls_same}
 use Rattle.wtf_steps.specs.Holding.{LeavesHand}
 use Rattle.wtf_steps.specs.Made.{Makes}
 use Rattle.wtf_steps.specs.Recorded.{found_in}
@@ -33,7 +34,12 @@ module _ {S : Type 0} (sc : Scene S) (made : InodeId) where
       → Makes a (SliceMade (sees sc made old.session []) o) old.at new.at → LeavesHand a (SliceHolds (sees sc made old.session []) o) old.session new.session
       → SliceDone sc made o a old new
   done_plain o a old new none same makes holds = record {
-    recalls = record { facts = []; recalls = same; known = told_none sc.kind sc.before sc.after; refused = λ h. refl; made = λ going. none };
+    recalls = record {
+      facts = [];
+      recalls = recalls_same sc.kind sc.before sc.after same;
+      known = told_none sc.kind sc.before sc.after;
+      reads = record { refused = λ h. refl; made = λ going. none };
+    };
     makes = makes;
     holds = holds;
   }
@@ -43,7 +49,12 @@ module _ {S : Type 0} (sc : Scene S) (made : InodeId) where
       → new.session ≡ old.session
       → SliceDone sc made o (answer.Refused word) old new
   done_refused o word old new lists changes hand = record {
-    recalls = record { facts = []; recalls = lists; known = told_none sc.kind sc.before sc.after; refused = λ h. refl; made = λ going. absurd (going tt) };
+    recalls = record {
+      facts = [];
+      recalls = recalls_same sc.kind sc.before sc.after lists;
+      known = told_none sc.kind sc.before sc.after;
+      reads = record { refused = λ h. refl; made = λ going. absurd (going tt) };
+    };
     makes = makes_refused (answer.Refused word) word (SliceMade (sees sc made old.session []) o) old.at new.at refl changes;
     holds = record { refused = λ h. hand; made = λ going. absurd (going tt) };
   }

@@ -17,11 +17,10 @@ use Rattle.wtf_meta.specs.Reads.{ReadsFile}
 use Rattle.wtf_meta.proofs.Weaker.{map_stays}
 use Rattle.wtf_region.specs.declared.dev.Dev.{Dev}
 use Rattle.wtf_region.specs.Bases.{slices_of, bases_in}
-use Rattle.wtf_region.specs.Cached.{Remembered, recalled}
-use Rattle.wtf_region.specs.Devs.{IsSoundDev, GoesOn, remembered, inside_of}
+use Rattle.wtf_region.specs.Devs.{IsSoundDev, GoesOn, inside_of}
 use Rattle.wtf_region.specs.Reads.{IsFileRead}
 use Rattle.wtf_region.proofs.ListReads.{entries_later, facts_on, places_later}
-use Rattle.wtf_region.proofs.Recalling.{recalled_more}
+use Rattle.wtf_region.proofs.Recalls.{recalls_same, recalls_on}
 use Rattle.wtf_slicing.specs.Sources.{files_bases, AreFilesRead}
 use Rattle.wtf_slicing.proofs.FileLists.{ReadsFiles-none, ReadsFiles-more}
 
@@ -52,7 +51,7 @@ module _ {S : Type 0} {kind : StoreKind S} (laws : KindLaws kind) where
   files_none dev w ps none = record {
     facts = [];
     wants = refl;
-    recalls = refl;
+    recalls = recalls_same kind dev dev refl;
     reads = ReadsFiles-none dev.settings.region w ps none;
     inside = All-nil (λ (f : ListFact). All (EntryBytes (inside_of kind dev)) f.list);
     told = λ ranges was told apart. tt;
@@ -70,7 +69,7 @@ module _ {S : Type 0} {kind : StoreKind S} (laws : KindLaws kind) where
         facts = first.facts ++ next.facts;
         wants = wants_more old.settings.region w is i first.facts next.facts first.wants
             (next.wants ∙ ap (λ (st : Settings). bases_in st.region (file_of i w) 0 (file_len old.settings.region (file_of i w))) g.settings);
-        recalls = next.recalls ∙ ap (λ (es : Remembered). recalled next.facts es) first.recalls ∙ sym (recalled_more first.facts next.facts (remembered old));
+        recalls = recalls_on laws g h first.facts next.facts first.recalls next.recalls;
         reads = ReadsFiles-more old.settings.region w is i first.facts next.facts ps qs first.reads one;
         inside = All-append Lies first.facts next.facts
             (All-weaker (λ (f : ListFact). All (EntryBytes (inside_of kind mid)) f.list) Lies

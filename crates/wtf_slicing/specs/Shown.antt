@@ -13,6 +13,7 @@ use Rattle.wtf_meta.specs.Maps.{Map}
 use Rattle.wtf_meta.specs.Sessions.{SessionView, SessionBytes}
 use Rattle.wtf_meta.specs.Calls.{Did, TellFacts}
 use Rattle.wtf_region.specs.declared.dev.Dev.{Dev}
+use Rattle.wtf_region.specs.Devs.{remembered}
 use Rattle.wtf_region.specs.Reads.{TellsFacts, AreInsideLists}
 use Rattle.wtf_steps.specs.Faults.{LacksBytes, ShowPlaces}
 
@@ -31,7 +32,9 @@ pub record TellsSlices {S : Type 0} (kind : StoreKind S) (old new : List S) (s :
   pub lists : did.lists ≡ []
   pub told : SessionBytes (is_told (byte_at kind old)) s → TellFacts (byte_at kind new) did.facts
 
--- why n bytes of a slice from off on were not shown; memory may be short at any time. What was never set gives no fault.
+-- Why n bytes of a slice from off on were not shown; memory may be short at any time. The lists that are remembered stay. What was
+-- never set gives no fault.
 abbrev pub LacksSlice : {S : Type 0} → StoreKind S → (old new : Dev S) → Option (List Piece) → ℕ → ℕ → Fault → Type 0
 LacksSlice kind old new None off n why = ⊥
-LacksSlice kind old new (Some ps) off n why = (why ≡ fault.Memory) ⊎ LacksBytes kind old new n (ShowPlaces n (λ i. pieces_origin ps (off + i))) why
+LacksSlice kind old new (Some ps) off n why =
+    ((why ≡ fault.Memory) ⊎ LacksBytes kind old new n (ShowPlaces n (λ i. pieces_origin ps (off + i))) why) × (remembered new ≡ remembered old)

@@ -15,9 +15,8 @@ use Rattle.wtf_meta.specs.Files.{file_len, file_origin}
 use Rattle.wtf_meta.specs.FileEdits.{file_of}
 use Rattle.wtf_region.specs.declared.dev.Dev.{Dev}
 use Rattle.wtf_region.specs.Bases.{slices_of, bases_in}
-use Rattle.wtf_region.specs.Cached.{recalled}
-use Rattle.wtf_region.specs.Devs.{GoesOn, remembered}
-use Rattle.wtf_region.specs.Reads.{TellsFacts, AreInsideLists, LacksRegion}
+use Rattle.wtf_region.specs.Devs.{GoesOn}
+use Rattle.wtf_region.specs.Reads.{Recalls, TellsFacts, AreInsideLists, LacksRegion}
 use Rattle.wtf_index.specs.Checks.{source_of}
 
 -- the inodes of files, in order, or why the first of them that is none is none
@@ -55,7 +54,7 @@ pub record ReadsFiles (b : ℕ) (w : Map) (is : List InodeId) (facts : List List
 pub record AreFilesRead {S : Type 0} (kind : StoreKind S) (old new : Dev S) (w : Map) (is : List InodeId) (ps : List Piece) : Type 0 where
   pub facts : List ListFact
   pub wants : slices_of facts ≡ files_bases old.settings.region w is
-  pub recalls : remembered new ≡ recalled facts (remembered old)
+  pub recalls : Recalls kind old new facts
   pub reads : ReadsFiles old.settings.region w is facts ps
   pub inside : AreInsideLists kind new facts
   pub told : TellsFacts kind old new facts
@@ -71,5 +70,5 @@ pub record LacksFile {S : Type 0} (kind : StoreKind S) (old new : Dev S) (w : Ma
   pub split : is ≡ read ++ inode ∷ rest
   pub before : List ListFact
   pub earlier : slices_of before ≡ files_bases old.settings.region w read
-  pub recalls : remembered mid ≡ recalled before (remembered old)
+  pub recalls : Recalls kind old mid before
   pub cause : LacksRegion kind mid new (file_of inode w) 0 (file_len old.settings.region (file_of inode w)) why

@@ -380,7 +380,12 @@ returns-in-Ok-put_pieces-clause-done g c s =
     let all = went_all at mid far read c.make_file.new.at into (target_keys b q) (sources_keys b ps) (files_keys b is) (create_edits dir q new)
     (edits_of new laid.edits) first second third made laid.grows in
     record {
-      recalls = record { facts = went.facts; recalls = went.recalls; known = went.told; refused = λ h. absurd h; made = λ going. (is, f, went.wants) };
+      recalls = record {
+        facts = went.facts;
+        recalls = went.recalls;
+        known = went.told;
+        reads = record { refused = λ h. absurd h; made = λ going. (is, f, went.wants) };
+      };
       makes = makes_these (IsConcat (sight z b s new went.facts) q ps) (create_edits dir q new ++ edits_of new laid.edits) at into all.changes (record {
         dir = dir;
         target = e;

@@ -59,8 +59,8 @@ show-requires-clause-readable g c =
     (slice_in c.args.s.now c.args.from) ps out c.args.off c.args.len is.is c.in-Ok.ensures.part in
     let inside : PiecesBytes (is_inside kind (stores dev) dev.settings) out =
     PiecesBytes-cut (is_inside kind (stores dev) dev.settings) ps out c.args.off c.args.len (c.requires.inside c.args.from ps is.is) within plans in
-    subst (λ (qs : List Piece). AreReadable kind (is_down_in dev) (stores dev) qs) (sym c.as_slice.ensures.value)
-    (λ k d below. readable_from kind (is_down_in dev) (stores dev) dev.settings out c.requires.sound.shelf inside k d below)
+    subst (λ (qs : List Piece). AreReadable kind dev qs) (sym c.as_slice.ensures.value)
+    (λ k d below. readable_from kind dev out c.requires.sound inside k d below)
 
 pub returns-in-Err-show-clause-fault : goal.returns-in-Err-show-clause-fault
 returns-in-Err-show-clause-fault g c =
@@ -74,16 +74,19 @@ returns-in-Err-show-clause-fault g c =
     let plans : Plans out c.args.len (λ i. pieces_origin ps (c.args.off + i)) = plans_of
     (slice_in c.args.s.now c.args.from) ps out c.args.off c.args.len is.is c.in-Ok.ensures.part in
     let n = c.args.len in
-    subst (λ (o : Option (List Piece)). LacksSlice kind dev new o c.args.off n c.in-Err-show.why) (sym is.is) (inr (record {
-      mid = dev;
-      goes = goes_nowhere g.met.S.SliceStore.laws dev c.requires.sound;
-      pieces = out;
-      are = plans;
-      inside = PiecesBytes-cut (inside_of kind dev) ps out c.args.off n (c.requires.inside c.args.from ps is.is)
-          within plans;
-      fault = subst (λ (qs : List Piece). IsShowFault kind (between dev new) (pieces_in 0 n qs) c.in-Err-show.why) c.as_slice.ensures.value
-          c.in-Err-show.ensures.fault;
-    }))
+    subst (λ (o : Option (List Piece)). LacksSlice kind dev new o c.args.off n c.in-Err-show.why) (sym is.is) (
+      inr (record {
+        mid = dev;
+        goes = goes_nowhere g.met.S.SliceStore.laws dev c.requires.sound;
+        pieces = out;
+        are = plans;
+        inside = PiecesBytes-cut (inside_of kind dev) ps out c.args.off n (c.requires.inside c.args.from ps is.is)
+            within plans;
+        fault = subst (λ (qs : List Piece). IsShowFault kind (between dev new) (pieces_in 0 n qs) c.in-Err-show.why) c.as_slice.ensures.value
+            c.in-Err-show.ensures.fault;
+      }),
+      c.in-Err-show.ensures.lists,
+    )
 
 pub returns-in-Err-show-clause-due : goal.returns-in-Err-show-clause-due
 returns-in-Err-show-clause-due g c w =

@@ -225,8 +225,10 @@ returns-clause-done g c made =
         facts = lists;
         recalls = went.recalls;
         known = went.told;
-        refused = λ h. absurd h;
-        made = λ going. (h, open_at.is, wants_due z u b h i spot.off begin k n lists same inode off c.range_start-begin.ensures.some count went.wants);
+        reads = record {
+          refused = λ h. absurd h;
+          made = λ going. (h, open_at.is, wants_due z u b h i spot.off begin k n lists same inode off c.range_start-begin.ensures.some count went.wants);
+        };
       };
       makes = makes_nothing (answer.Len k) (SliceMade x (Yank f n label)) at new refl
           (keeps_changes read new _ c.in-Ok-pieces.ensures.recorded ∙ keeps_changes at read _ c.in-Ok.ensures.recorded);
