@@ -23,6 +23,7 @@ use Rattle.wtf_region.specs.declared.dev.Dev.{Dev}
 use Rattle.wtf_region.specs.Apart.{are_apart}
 use Rattle.wtf_region.specs.Devs.{IsSoundDev, stores, told_in, is_down_in}
 use Rattle.wtf_region.specs.Inside.{is_inside, IsStoredInside}
+use Rattle.wtf_region.proofs.Recalls.{recalls_same}
 use Rattle.wtf_region.proofs.ShowLaws.{reads_nothing}
 use Rattle.wtf_region.proofs.Spans.{goes_nowhere}
 use Rattle.wtf_replay.specs.Views.{TxnView, rebased}
@@ -291,7 +292,7 @@ pub finish_live : {S : Type 0} {kind : StoreKind S} → KindLaws kind → (dev :
     → FinishOf (turn kind dev dev kv mid x y) (Ok (answer.Committed n))
 finish_live {kind = kind} laws dev kv mid x y n sound log live installed maps pins = record {
   ended = (installed.next, installed.number);
-  installs = installs_live (scope kind dev dev) kv mid x n live installed;
+  installs = installs_live (scope kind dev dev) kv mid x n live (recalls_same kind dev dev refl) installed;
   meaning = λ ops start. final_from dev.settings.region kv (told_in kind dev) x ops start.3 mid n log live installed;
   named = named_none (λ P Q hole were. subst (MapBytes P Q) (sym (ap (metadata_at mid) installed.number ∙ installed.map))
       (with_bytes P Q hole x.at.changes (metadata_at kv kv.number) were.1 were.0.hand.changes));

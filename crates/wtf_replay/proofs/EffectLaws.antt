@@ -1,7 +1,7 @@
--- The keys and changes of a call of a transaction, from those of the call on an attempt as which it is made.
+-- The keys, changes and lists of a call of a transaction, from those of the call on an attempt as which it is made.
 use Rattle.std.proofs.Common.{◌≡◌, ◌≢◌, ℕ, zero, suc, ◌+◌, ◌++◌, Bool, true, false, List, [], ◌∷◌, length, Option, None, Some, refl, sym, ap, ◌∙◌, subst}
 use Rattle.std.proofs.Common.{append-nil, arith, inl, inr}
-use Rattle.std.specs.Prelude.{◌⊎◌, bytes_eq, if◌then◌else◌, IsSomeAnd, Result, Ok, Err, IfOk, IfSome, OnOk}
+use Rattle.std.specs.Prelude.{◌⊎◌, bytes_eq, if◌then◌else◌, slice_get, IsSomeAnd, Result, Ok, Err, IfOk, IfSome, OnOk}
 use Rattle.std.specs.List.{list_any}
 use Rattle.std.proofs.lemmas.Bool.{cond-true, cond-false, or_left, or_right, or_from, false_from_ne_true}
 use Rattle.std.proofs.lemmas.Slice.Eq.{bytes_eq-Decides}
@@ -30,25 +30,28 @@ use Rattle.wtf_index.specs.Checks.{stands_at}
 use Rattle.wtf_steps.specs.Steps.{IsRefusal}
 use Rattle.wtf_steps.specs.Made.{Makes}
 use Rattle.wtf_steps.specs.Holding.{LeavesHand, MovesOn}
+use Rattle.wtf_steps.specs.Recalling.{ReadsFor}
+use Rattle.wtf_rw.specs.declared.op.Given.{Given}
 use Rattle.wtf_rw.specs.declared.op.Given.TheVariants.{Fresh, Stored}
 use Rattle.wtf_rw.specs.declared.op.RwOp.{RwOp}
 use Rattle.wtf_rw.specs.declared.op.RwOp.TheVariants as rw
 use Rattle.wtf_rw.specs.Ops.{rw_keys}
 use Rattle.wtf_rw.specs.Changed.{RwMade}
 use Rattle.wtf_rw.specs.Held.{RwHolds, held_len}
+use Rattle.wtf_rw.specs.Reads.{RwReads}
 use Rattle.wtf_slicing.specs.declared.op.SliceOp.{SliceOp}
 use Rattle.wtf_slicing.specs.declared.op.SliceOp.TheVariants as slicing
 use Rattle.wtf_slicing.specs.Ops.{slice_keys}
 use Rattle.wtf_slicing.specs.Changed.{SliceMade}
-use Rattle.wtf_slicing.specs.Held.{SliceHolds}
+use Rattle.wtf_slicing.specs.Held.{SliceHolds, SliceReads}
 use Rattle.wtf_meta.specs.Calls.{InHand}
 use Rattle.wtf_replay.specs.Views.{TxnView, hand_of}
-use Rattle.wtf_replay.specs.Built.{IsOpOf, IsSliceOpOf, IsFresh, IsStored, data_len}
+use Rattle.wtf_replay.specs.Built.{is_rw_op, is_slice_op, IsOpOf, IsSliceOpOf, IsFresh, IsStored, data_len}
 use Rattle.wtf_replay.specs.Keeps.{LacksData}
 use Rattle.wtf_replay.specs.Looked.{HasHandleOf, IsLooked}
 use Rattle.wtf_slicing.specs.Sights.{Sight, sight}
 use Rattle.wtf_replay.specs.Effects.{is_by, is_held, is_file, is_busy, taken_keys, taken_changes, call_keys, CallMakes}
-use Rattle.wtf_replay.specs.Effects.{Acts, CallHolds, kept_len, Scope, sight_at, Redoes, AreRedone}
+use Rattle.wtf_replay.specs.Effects.{Acts, CallHolds, CallReads, kept_len, Scope, sight_at, MakesAgain, Redoes, AreRedone, StopsAt}
 
 -- a handle that is opened by a path is found
 held_among : (p : List ℕ) (hs : List (Option Handle)) (f : ℕ) (h : Handle) → at_label hs f ≡ Some h → h.path ≡ p → list_any (is_by p) hs ≡ true
@@ -185,6 +188,42 @@ module _ (z : ℕ) (w : Map) (s : SessionView) (new : InodeId) (a : Answer) (old
     acts_slice (slicing.Cut l off m t) o is keys made = slice_as (op.Cut l off m t) o is keys (no_change a old into made)
     acts_slice r o is keys made = slice_as _ o is keys made
 
+-- a call that reads no list asked for none
+reads_none : (a : Answer) (lists : List ListFact) → ReadsFor a (λ facts. facts ≡ []) lists → lists ≡ []
+reads_none a lists reads = elim (refusal_or_not a) [
+  | inl is ↦ reads.refused is
+  | inr going ↦ reads.made going
+]
+
+-- the lists that calls ask for, by what they see
+module _ (z : ℕ) (w : Map) (s : SessionView) (new : InodeId) (a : Answer) (lists : List ListFact) where
+  abbrev here : Sight
+  here = sight z w s new lists
+
+  -- on handles or bytes
+  pub reads_rw : {D : Type 0} (G : Given → D → Type 0) (r : RwOp) (o : Op D) → IsOpOf G r o → ReadsFor a (RwReads z w s r) lists → CallReads here o a
+  reads_rw G (rw.Read f n) o is h = subst (λ q. CallReads here q a) (sym is) (record {
+    refused = h.refused;
+    made = λ going. let one = h.made going in (one.0, one.1, one.2.wants);
+  })
+  reads_rw G (rw.Write f d) o is h = subst (λ q. CallReads here q a) (sym is.1) (reads_none a lists h)
+  reads_rw G (rw.Append f d) o is h = subst (λ q. CallReads here q a) (sym is.1) (reads_none a lists h)
+  reads_rw G r o is h = subst (λ q. CallReads here q a) (sym is) (reads_none a lists h)
+
+  -- on slices, or to make a file of others
+  pub reads_slice : {D : Type 0} (r : SliceOp) (o : Op D) → IsSliceOpOf r o → ReadsFor a (λ facts. SliceReads (sight z w s new facts) r) lists
+      → CallReads here o a
+  reads_slice (slicing.Yank f n l) o is h = subst (λ q. CallReads here q a) (sym is) h
+  reads_slice (slicing.Concat p ps) o is h = subst (λ q. CallReads here q a) (sym is) h
+  reads_slice r o is h = subst (λ q. CallReads here q a) (sym is) (reads_none a lists h)
+
+-- and on names
+pub reads_name : {D : Type 0} (x : Sight) (o : Op D) (a : Answer) → is_rw_op o ≡ false → is_slice_op o ≡ false → x.lists ≡ [] → CallReads x o a
+reads_name x (op.Read f n) a rw_none slice_none none = absurd (cc)
+reads_name x (op.Yank f n l) a rw_none slice_none none = absurd (cc)
+reads_name x (op.Concat q ps) a rw_none slice_none none = absurd (cc)
+reads_name x o a rw_none slice_none none = none
+
 -- a call on names, from what it went on by
 pub acts_name : {D : Type 0} (x : Sight) (n : ℕ) (own : Option Slice) (o : Op D) (a : Answer) (old new : Attempted Key Delta) (cs : Edits)
     → GrowsBy old new (call_keys x n o) cs
@@ -258,28 +297,67 @@ redone_none b kv x n hand none is = subst (λ (k : ℕ). AreRedone b kv x k [] h
 
 -- one call more was made once more
 pub redone_more : (b : Scope) (kv : Store Key Value) (x : TxnView) (n m k : ℕ) (before : List ListFact) (mid hand : InHand) → m ≡ n + 1 → k ≡ x.replayed + n
-    → AreRedone b kv x n before mid → (one : Redoes b kv x k mid hand) → AreRedone b kv x m (before ++ one.lists) hand
+    → AreRedone b kv x n before mid → (one : Redoes b kv x k mid hand) → AreRedone b kv x m (before ++ one.makes.lists) hand
 redone_more b kv x n m k before mid hand is here first one =
     let next : m ≡ suc n = omega (arith, is) in
-    let last = subst (λ (j : ℕ). (r : Redoes b kv x j mid hand) × (before ++ one.lists ≡ before ++ r.lists)) here (one, refl) in
-    subst (λ (j : ℕ). AreRedone b kv x j (before ++ one.lists) hand) (sym next) (mid, before, first, last.0, last.1)
+    let last = subst (λ (j : ℕ). (r : Redoes b kv x j mid hand) × (before ++ one.makes.lists ≡ before ++ r.makes.lists)) here (one, refl) in
+    subst (λ (j : ℕ). AreRedone b kv x j (before ++ one.makes.lists) hand) (sym next) (mid, before, first, last.0, last.1)
+
+-- and the next answered otherwise than was shown
+pub stops_at : (b : Scope) (kv : Store Key Value) (x : TxnView) (n k : ℕ) (before : List ListFact) (mid new : InHand) (a : Answer) → k ≡ x.replayed + n
+    → AreRedone b kv x n before mid → (one : MakesAgain b kv x k a mid new) → slice_get x.log.shown k ≢ Some a → b.recalls (before ++ one.lists)
+    → StopsAt b kv x (k + 1) a
+stops_at b kv x n k before mid new a here first one differs recalls =
+    let last = subst (λ (j : ℕ). (m : MakesAgain b kv x j a mid new) × (slice_get x.log.shown j ≢ Some a) × b.recalls (before ++ m.lists)) here
+    (one, differs, recalls) in
+    record {
+      same = n;
+      counted = omega (arith, here);
+      before = before;
+      mid = mid;
+      redone = first;
+      new = new;
+      makes = last.0;
+      differs = last.1;
+      recalls = last.2;
+    }
 
 -- and where more lists are known
 module _ (b c : Scope) (size : c.size ≡ b.size) (more : (lists : List ListFact) → b.known lists → c.known lists) where
-  unfoldable pub redo_later : (kv : Store Key Value) (x : TxnView) (k : ℕ) (old new : InHand) → Redoes b kv x k old new → Redoes c kv x k old new
-  redo_later kv x k old new h = record {
+  unfoldable pub makes_later : (kv : Store Key Value) (x : TxnView) (k : ℕ) (a : Answer) (old new : InHand) → MakesAgain b kv x k a old new
+      → MakesAgain c kv x k a old new
+  makes_later kv x k a old new h = record {
     op = h.op;
     at_op = h.at_op;
-    shown = h.shown;
-    at_shown = h.at_shown;
     lists = h.lists;
     known = more h.lists h.known;
-    acts = subst (λ (z : ℕ). Acts (sight_at z kv x.tx k old h.lists) (kept_len h.op) (own_of h.op) h.op h.shown old.at new.at) (sym size) h.acts;
-    holds = subst (λ (z : ℕ). CallHolds (sight_at z kv x.tx k old h.lists) (own_of h.op) h.op h.shown old.session new.session) (sym size) h.holds;
+    reads = subst (λ (z : ℕ). CallReads (sight_at z kv x.tx k old h.lists) h.op a) (sym size) h.reads;
+    acts = subst (λ (z : ℕ). Acts (sight_at z kv x.tx k old h.lists) (kept_len h.op) (own_of h.op) h.op a old.at new.at) (sym size) h.acts;
+    holds = subst (λ (z : ℕ). CallHolds (sight_at z kv x.tx k old h.lists) (own_of h.op) h.op a old.session new.session) (sym size) h.holds;
+    logged = h.logged;
   }
+
+  unfoldable pub redo_later : (kv : Store Key Value) (x : TxnView) (k : ℕ) (old new : InHand) → Redoes b kv x k old new → Redoes c kv x k old new
+  redo_later kv x k old new h = record { shown = h.shown; at_shown = h.at_shown; makes = makes_later kv x k h.shown old new h.makes }
 
   pub redone_later : (kv : Store Key Value) (x : TxnView) (n : ℕ) (lists : List ListFact) (hand : InHand) → AreRedone b kv x n lists hand
       → AreRedone c kv x n lists hand
-  unfolding redo_later
+  unfolding redo_later makes_later
   redone_later kv x zero lists hand h = h
   redone_later kv x (suc n) lists hand h = (h.0, h.1, redone_later kv x n h.1 h.0 h.2, redo_later kv x (x.replayed + n) h.0 hand h.3, h.4)
+
+  -- and recalled
+  pub stops_later : ((lists : List ListFact) → b.recalls lists → c.recalls lists) → (kv : Store Key Value) (x : TxnView) (i : ℕ) (a : Answer)
+      → StopsAt b kv x i a → StopsAt c kv x i a
+  unfolding makes_later
+  stops_later keeps kv x i a h = record {
+    same = h.same;
+    counted = h.counted;
+    before = h.before;
+    mid = h.mid;
+    redone = redone_later kv x h.same h.before h.mid h.redone;
+    new = h.new;
+    makes = makes_later kv x (x.replayed + h.same) a h.mid h.new h.makes;
+    differs = h.differs;
+    recalls = keeps (h.before ++ h.makes.lists) h.recalls;
+  }

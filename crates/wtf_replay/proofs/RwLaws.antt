@@ -30,11 +30,12 @@ use Rattle.wtf_rw.specs.declared.op.Given.TheVariants.{Fresh, Stored}
 use Rattle.wtf_rw.specs.declared.op.RwOp.{RwOp}
 use Rattle.wtf_rw.specs.declared.op.RwOp.TheVariants as rw
 use Rattle.wtf_rw.specs.Stored.{SliceBytes, TellSlice, IsOwn}
-use Rattle.wtf_rw.specs.Ops.{op_of, Writes, IsWhole, RwBytes, OwnBy, IsRwOwn, LacksOwn, StoresNone, IsRwFault, IsBare, LacksSlice, rw_file}
+use Rattle.wtf_rw.specs.Ops.{op_of, Writes, IsWhole, RwBytes, OwnBy, IsRwOwn, LacksOwn, StoresNone, IsRwFault, IsBare, LacksSlice, NeedsNoStore}
+use Rattle.wtf_rw.specs.Ops.{rw_place, rw_len}
 use Rattle.wtf_rw.proofs.StoredBytes.{held_meaning}
-use Rattle.wtf_replay.specs.Built.{IsOpOf, IsFresh, IsStored, call_data}
+use Rattle.wtf_replay.specs.Built.{IsOpOf, IsFresh, IsStored, call_data, data_len}
 use Rattle.wtf_replay.specs.Keeps.{IsWholeOp, LacksData, IsKeptOf}
-use Rattle.wtf_replay.specs.Causes.{IsOwnOf, IsCallFault, IsAgainFault, StoresNothing, grown_file}
+use Rattle.wtf_replay.specs.Causes.{IsOwnOf, IsCallFault, IsAgainFault, IsStillOp, StoresNothing, grown_place}
 use Rattle.wtf_replay.specs.Sounds.{tells_slice}
 
 -- slices that are told have only bytes that are
@@ -69,18 +70,26 @@ module _ {S : Type 0} (kind : StoreKind S) (old new : Dev S) (w : Map) (s : Sess
     pub fault : (why : Fault) → IsRwFault kind old new w s r why → IsCallFault kind old new w s o why
     pub lacks : (q : Option Slice) (a : Answer) → LacksOwn r q a → LacksData o q a
     pub none : StoresNothing o → StoresNone r
-    pub file : rw_file old w s r ≡ grown_file old w s o
+    pub place : rw_place old w s r ≡ grown_place old w s o
+    pub len : rw_len r ≡ data_len o
 
   pub fresh_ways : (r : RwOp) (o : Op (List ℕ)) → IsOpOf IsFresh r o → FreshWays r o
   fresh_ways (rw.Write f (Fresh bs)) o (bytes, e, is) =
       subst (FreshWays (rw.Write f (Fresh bs))) (sym (e ∙ ap (op.Write f) is))
-      (record { own = λ q h. h; fault = λ why h. h; lacks = λ q a l. l; none = λ h. h; file = refl })
+      (record { own = λ q h. h; fault = λ why h. h; lacks = λ q a l. l; none = λ h. h; place = refl; len = refl })
   fresh_ways (rw.Append f (Fresh bs)) o (bytes, e, is) =
       subst (FreshWays (rw.Append f (Fresh bs))) (sym (e ∙ ap (op.Append f) is))
-      (record { own = λ q h. h; fault = λ why h. h; lacks = λ q a l. l; none = λ h. h; file = refl })
+      (record { own = λ q h. h; fault = λ why h. h; lacks = λ q a l. l; none = λ h. h; place = refl; len = refl })
   fresh_ways (rw.Write f (Stored kept)) o (bytes, e, is) = absurd is
   fresh_ways (rw.Append f (Stored kept)) o (bytes, e, is) = absurd is
-  fresh_ways r o e = subst (FreshWays r) (sym e) (record { own = λ q h. h; fault = λ why h. h; lacks = λ q a l none. inl refl; none = λ h. h; file = refl })
+  fresh_ways r o e = subst (FreshWays r) (sym e) (record {
+    own = λ q h. h;
+    fault = λ why h. h;
+    lacks = λ q a l none. inl refl;
+    none = λ h. h;
+    place = refl;
+    len = refl;
+  })
 
   -- the slice that was stored has as many bytes as the data
   by_len : (o : Option Handle) (place : Handle → PlaceView) (bytes : List ℕ) (q : Option Slice) → OwnBy kind old new o place bytes q
@@ -158,6 +167,7 @@ module _ {S : Type 0} (kind : StoreKind S) (old new : Dev S) (w : Map) (s : Sess
     pub whole : IsWholeOp k → IsWhole r
     pub either : IsWhole r ⊎ Lacks r
     pub kept : IsWholeOp k ⊎ Lacks r
+    pub still : IsStillOp k → NeedsNoStore r
     pub fault : (why : Fault) → IsRwFault kind old new w s r why → IsAgainFault kind old new w s k why
 
   kept_either : (o : Option Slice) (n : ℕ) → (o ≡ None → n ≡ 0) ⊎ (o ≡ None)
@@ -171,6 +181,7 @@ module _ {S : Type 0} (kind : StoreKind S) (old new : Dev S) (w : Map) (s : Sess
     whole = λ h. h;
     either = kept_either kept.slice kept.len;
     kept = kept_either kept.slice kept.len;
+    still = λ h. tt;
     fault = λ why h. h;
   })
   again_ways (rw.Append f (Stored kept)) k (x, e, is) = subst (AgainWays (rw.Append f (Stored kept))) (sym (e ∙ ap (op.Append f) is)) (record {
@@ -179,11 +190,29 @@ module _ {S : Type 0} (kind : StoreKind S) (old new : Dev S) (w : Map) (s : Sess
     whole = λ h. h;
     either = kept_either kept.slice kept.len;
     kept = kept_either kept.slice kept.len;
+    still = λ h. tt;
     fault = λ why h. h;
   })
   again_ways (rw.Write f (Fresh bs)) k (x, e, is) = absurd is
   again_ways (rw.Append f (Fresh bs)) k (x, e, is) = absurd is
-  again_ways r k e = subst (AgainWays r) (sym e) (record { given = λ P h. tt; none = tt; whole = λ h. tt; either = inl tt; kept = inl tt; fault = λ why h. h })
+  again_ways (rw.Read f n) k e = subst (AgainWays (rw.Read f n)) (sym e) (record {
+    given = λ P h. tt;
+    none = tt;
+    whole = λ h. tt;
+    either = inl tt;
+    kept = inl tt;
+    still = λ h. absurd h;
+    fault = λ why h. h;
+  })
+  again_ways r k e = subst (AgainWays r) (sym e) (record {
+    given = λ P h. tt;
+    none = tt;
+    whole = λ h. tt;
+    either = inl tt;
+    kept = inl tt;
+    still = λ h. tt;
+    fault = λ why h. h;
+  })
 
 -- the bytes of a call that is made once more, as P tells them of its slice
 module _ (P : Slice → List ℕ → Type 0) where

@@ -23,6 +23,7 @@ use Rattle.wtf_meta.specs.Contents.{Told, is_told, lists_in}
 use Rattle.wtf_meta.specs.Lists.{TellLists}
 use Rattle.wtf_meta.specs.Maps.{AllFit, metadata_at}
 use Rattle.wtf_meta.specs.Calls.{Caller, InHand}
+use Rattle.wtf_meta.specs.Sessions.{SessionView}
 use Rattle.wtf_meta.proofs.Telling.{TellBytes-later}
 use Rattle.wtf_region.specs.declared.dev.Dev.{Dev}
 use Rattle.wtf_region.specs.Devs.{GoesOn, stores}
@@ -34,7 +35,7 @@ use Rattle.wtf_replay.specs.Built.{call_data, with_data}
 use Rattle.wtf_replay.specs.Fits.{IsLog}
 use Rattle.wtf_replay.specs.Insides.{IsHandInside, IsLogInside, NamesHand, NamesAgain}
 use Rattle.wtf_replay.specs.Sounds.{TellsHand, IsToldStep, IsDue, tells_slice, caller_at}
-use Rattle.wtf_replay.specs.Effects.{Acts, CallHolds, kept_len, scope, Redoes}
+use Rattle.wtf_replay.specs.Effects.{Acts, CallHolds, CallReads, kept_len, scope, MakesAgain, Redoes}
 use Rattle.wtf_replay.specs.Works.{Work, IsCaller, IsWork, IsNext, inode_at, saw, work_region_size, told_then, told_now}
 use Rattle.wtf_replay.proofs.Insiding.{hand_later, log_later, named_step, named_same, log_at}
 use Rattle.wtf_replay.proofs.Later.{tells_on}
@@ -170,21 +171,28 @@ module _ {S : Type 0} (w : Work S) (tx : ℕ) (log : Calls) (k : ℕ) (a : Answe
       (subst (λ (q : Op Kept). OpStandsFor (tells_slice (told_then w)) q o) (same_call kept at) stands)
 
   -- and by what it did it is the next of a transaction with this log
-  unfoldable pub next_redoes : slice_get log.shown k ≡ Some a → (y : TxnView) → y.tx ≡ tx → y.log ≡ log
-      → Redoes (scope w.kind w.before w.after) w.kv y k w.old w.new
-  next_redoes shown y number logs =
+  unfoldable pub next_makes : (y : TxnView) → y.tx ≡ tx → y.log ≡ log → MakesAgain (scope w.kind w.before w.after) w.kv y k a w.old w.new
+  next_makes y number logs =
       let acted = next.again.acted in
+      let z : ℕ = work_region_size w in
+      let s : SessionView = w.old.session in
       record {
         op = next.op;
         at_op = subst (λ (l : Calls). slice_get l.ops k ≡ Some next.op) (sym logs) next.at_op;
-        shown = a;
-        at_shown = subst (λ (l : Calls). slice_get l.shown k ≡ Some a) (sym logs) shown;
         lists = acted.lists;
         known = acted.known;
-        acts = subst (λ (n : ℕ). Acts (sight (work_region_size w) (saw w) w.old.session (inode_at n k) acted.lists) (kept_len next.op) (own_of next.op)
-            next.op a w.old.at w.new.at)
+        reads = subst (λ (n : ℕ). CallReads (sight z (saw w) s (inode_at n k) acted.lists) next.op a) (sym number) acted.reads;
+        acts = subst (λ (n : ℕ). Acts (sight z (saw w) s (inode_at n k) acted.lists) (kept_len next.op) (own_of next.op) next.op a w.old.at w.new.at)
             (sym number) acted.acts;
-        holds = subst (λ (n : ℕ). CallHolds (sight (work_region_size w) (saw w) w.old.session (inode_at n k) acted.lists) (own_of next.op) next.op a
-            w.old.session w.new.session)
+        holds = subst (λ (n : ℕ). CallHolds (sight z (saw w) s (inode_at n k) acted.lists) (own_of next.op) next.op a s w.new.session)
             (sym number) acted.holds;
+        logged = next.again.logged;
       }
+
+  unfoldable pub next_redoes : slice_get log.shown k ≡ Some a → (y : TxnView) → y.tx ≡ tx → y.log ≡ log
+      → Redoes (scope w.kind w.before w.after) w.kv y k w.old w.new
+  next_redoes shown y number logs = record {
+    shown = a;
+    at_shown = subst (λ (l : Calls). slice_get l.shown k ≡ Some a) (sym logs) shown;
+    makes = next_makes y number logs;
+  }

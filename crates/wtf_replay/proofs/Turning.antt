@@ -24,7 +24,8 @@ use Rattle.wtf_region.proofs.ShowLaws.{reads_nothing}
 use Rattle.wtf_region.proofs.Spans.{goes_nowhere}
 use Rattle.wtf_steps.proofs.Leaving.{leaves_all}
 use Rattle.wtf_replay.specs.Views.{TxnView, is_txn_live, is_full}
-use Rattle.wtf_replay.specs.Causes.{grown_file}
+use Rattle.wtf_replay.specs.Built.{data_len}
+use Rattle.wtf_replay.specs.Causes.{grown_place}
 use Rattle.wtf_replay.specs.Fits.{IsFit}
 use Rattle.wtf_replay.specs.Insides.{IsInsideTxn}
 use Rattle.wtf_replay.specs.Refusals.{call_refusal, unmade, try_refusal, step_refusal}
@@ -51,6 +52,11 @@ step_none x left = ap (λ (b : Bool). if b then Some Live else None) (ne_eqb x.r
 -- what is said of a refusal, where there is none
 pub if_none : {A : Type 0} (o : Option A) (P : A → Type 0) → o ≡ None → IfSome o P
 if_none o P none = subst (λ q. IfSome q P) (sym none) tt
+
+-- what holds of each value holds of one, if there is one
+pub if_each : {A : Type 0} (o : Option A) (P : A → Type 0) → ((x : A) → P x) → IfSome o P
+if_each None P each = tt
+if_each (Some x) P each = each x
 
 -- a transaction whose attempt and session are what they were
 pub put_back : (x : TxnView) (at : Attempted Key Delta) (session : SessionView) → at ≡ x.at → session ≡ x.session → record x { at = at; session = session } ≡ x
@@ -85,7 +91,7 @@ call_refused {kind = kind} laws dev sound kv x o word is fit inside =
       err_hand = tt;
       fault = tt;
       due = tt;
-      leaves = leaves_all kind (grown_file dev (seen kv x.at) x.session o) dev;
+      leaves = leaves_all kind (grown_place dev (seen kv x.at) x.session o) (data_len o) dev;
       reads = λ nothing. reads_nothing kind (is_down_in dev) (stores dev);
       dev = goes_nowhere laws dev sound;
     }

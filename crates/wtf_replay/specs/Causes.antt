@@ -8,6 +8,7 @@ use Rattle.wtf_base.specs.declared.settings.Settings.{Settings}
 use Rattle.wtf_base.specs.declared.slice.Slice.{Slice}
 use Rattle.wtf_dev.specs.Store.{Range, StoreKind}
 use Rattle.wtf_overlay.specs.declared.part.Piece.{Piece}
+use Rattle.wtf_ring.specs.Points.{PlaceView}
 use Rattle.wtf_replica.specs.Bytes.{byte_at}
 use Rattle.wtf_kv.specs.Stores.{Store}
 use Rattle.wtf_occ.specs.Attempts.{Attempted}
@@ -31,14 +32,14 @@ use Rattle.wtf_meta.specs.Sessions.{SessionView, handle_in, slice_in}
 use Rattle.wtf_meta.specs.Trees.{Stands}
 use Rattle.wtf_meta.specs.Calls.{InHand, cap_for}
 use Rattle.wtf_region.specs.declared.dev.Dev.{Dev}
-use Rattle.wtf_region.specs.Devs.{GoesOn, place_in, stores}
+use Rattle.wtf_region.specs.Devs.{GoesOn, stores, remembered}
+use Rattle.wtf_region.specs.Reads.{Recalls}
 use Rattle.wtf_steps.specs.Faults.{MayFault}
-use Rattle.wtf_steps.specs.Recalling.{Recalls}
 use Rattle.wtf_steps.specs.Scenes.{Scene}
-use Rattle.wtf_rw.specs.Ops.{OwnBy, file_in, file_at_end}
+use Rattle.wtf_rw.specs.Ops.{OwnBy, place_at, place_at_end}
 use Rattle.wtf_rw.specs.Reads.{LacksRead}
 use Rattle.wtf_steps.specs.Recorded.{found_in}
-use Rattle.wtf_rw.specs.Stored.{IsPutFault, end_place}
+use Rattle.wtf_rw.specs.Stored.{IsPutFault}
 use Rattle.wtf_slicing.specs.Ops.{IsYankFault, IsConcatFault}
 use Rattle.wtf_slicing.specs.Shown.{LacksSlice}
 use Rattle.wtf_replay.specs.Views.{TxnView, in_hand, hand_of, replaying}
@@ -47,28 +48,27 @@ use Rattle.wtf_replay.specs.Insides.{NamesAgain}
 use Rattle.wtf_replay.specs.Sounds.{LogStands, TellsMap, IsAwayTxn, caller_at}
 use Rattle.wtf_replay.specs.Effects.{scope, AreRedone}
 
--- what came of the bytes that a call was to store: those that are written go to the region of the handle's offset, and those
--- that are appended to that of the file's end
+-- what came of the bytes that a call was to store
 abbrev pub IsOwnOf : {S : Type 0} → StoreKind S → (old new : Dev S) → Map → SessionView → Op (List ℕ) → Option Slice → Type 0
-IsOwnOf kind old new w s (op.Write f bytes) own = OwnBy kind old new (handle_in s f) (λ h. place_in old h.inode h.off) bytes own
-IsOwnOf kind old new w s (op.Append f bytes) own =
-    OwnBy kind old new (handle_in s f) (λ h. place_in old h.inode (end_place old.settings.region (file_of h.inode w))) bytes own
+IsOwnOf kind old new w s (op.Write f bytes) own = OwnBy kind old new (handle_in s f) (place_at old) bytes own
+IsOwnOf kind old new w s (op.Append f bytes) own = OwnBy kind old new (handle_in s f) (place_at_end old w) bytes own
 IsOwnOf kind old new w s (op.Read f n) own = own ≡ None
 IsOwnOf kind old new w s (op.Yank f n label) own = own ≡ None
 IsOwnOf kind old new w s (op.Peek label off n) own = own ≡ None
 IsOwnOf kind old new w s (op.Concat q paths) own = own ≡ None
 IsOwnOf kind old new w s o own = (new ≡ old) × (own ≡ None)
 
--- a call that needs neither bytes nor lists
+-- a call that reads neither bytes nor lists of the stores
 abbrev pub IsStillOp : {D : Type 0} → Op D → Type 0
+IsStillOp (op.Read f n) = ⊥
 IsStillOp (op.Yank f n label) = ⊥
 IsStillOp (op.Peek label off n) = ⊥
 IsStillOp (op.Concat q paths) = ⊥
 IsStillOp o = ⊤
 
--- why n bytes of a slice were not shown; memory may be short at any time
+-- why n bytes of a slice were not shown; memory may be short at any time. The lists that are remembered stay.
 abbrev pub IsPeekCause : {S : Type 0} → StoreKind S → (old new : Dev S) → Option (List Piece) → ℕ → ℕ → Fault → Type 0
-IsPeekCause kind old new slice off n why = (why ≡ fault.Memory) ⊎ LacksSlice kind old new slice off n why
+IsPeekCause kind old new slice off n why = ((why ≡ fault.Memory) ⊎ LacksSlice kind old new slice off n why) × (remembered new ≡ remembered old)
 
 -- a call that is to store no byte
 abbrev pub StoresNothing : Op (List ℕ) → Type 0
@@ -76,11 +76,12 @@ StoresNothing (op.Write f bytes) = ⊥
 StoresNothing (op.Append f bytes) = ⊥
 StoresNothing o = ⊤
 
--- the file of the servers to which bytes go that a call is to store, where its handle is open
-abbrev pub grown_file : {S : Type 0} → Dev S → Map → SessionView → Op (List ℕ) → Option ℕ
-grown_file dev w s (op.Write f bytes) = option_map (file_in dev) (handle_in s f)
-grown_file dev w s (op.Append f bytes) = option_map (file_at_end dev w) (handle_in s f)
-grown_file dev w s o = None
+-- where the bytes go that a call is to store, where its handle is open: those that are written to the place of the region of the handle's
+-- offset, and those that are appended to that of the file's end
+abbrev pub grown_place : {S : Type 0} → Dev S → Map → SessionView → Op (List ℕ) → Option PlaceView
+grown_place dev w s (op.Write f bytes) = option_map (place_at dev) (handle_in s f)
+grown_place dev w s (op.Append f bytes) = option_map (place_at_end dev w) (handle_in s f)
+grown_place dev w s o = None
 
 -- why n bytes from a handle's offset on were not shown; memory may be short at any time
 abbrev pub IsReadCause : {S : Type 0} → StoreKind S → (old new : Dev S) → Map → Option Handle → ℕ → Fault → Type 0
@@ -130,7 +131,7 @@ pub record ReplayFault {S : Type 0} (kind : StoreKind S) (old new : Dev S) (kv :
   pub base : at.base ≡ x.at.base
   pub lists : List ListFact
   pub redone : AreRedone (scope kind old mid) kv x (k - x.replayed) lists (in_hand at session)
-  pub recalls : Recalls old mid lists
+  pub recalls : Recalls kind old mid lists
   pub named : NamesAgain kind old mid kv (hand_of x) (in_hand at session) x.log
   pub done : (ops : List (Op (List ℕ))) (ranges : List (ℕ × Range)) → TellsMap kind old ranges (metadata_at kv x.at.base) → IsAwayTxn kind old ranges kv x
       → LogStands old.settings.region kv (byte_at kind (stores old)) x ops

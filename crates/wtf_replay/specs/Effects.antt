@@ -1,9 +1,10 @@
--- What a call of a transaction records and changes, by what it sees: its keys, in order and up to a refusal, and its changes,
--- and nothing else.
+-- What a call of a transaction records and changes, by what it sees: its keys, in order and up to a refusal, its changes, and the lists
+-- that it asks for, and nothing else.
 -- NSDI 2016, sections 2.3 to 2.6 (what a call read is what a later install of others may not have changed).
-use Rattle.std.specs.Prelude.{◌≡◌, ℕ, zero, suc, ◌+◌, ◌-◌, ◌*◌, ◌++◌, Bool, true, false, bytes_eq, if◌then◌else◌, List, [], ◌∷◌, length, Option, None, Some}
-use Rattle.std.specs.Prelude.{slice_get}
+use Rattle.std.specs.Prelude.{◌≡◌, ◌≢◌, ℕ, zero, suc, ◌+◌, ◌-◌, ◌*◌, ◌++◌, Bool, true, false, bytes_eq, if◌then◌else◌, List, [], ◌∷◌, length}
+use Rattle.std.specs.Prelude.{Option, None, Some, Ok, slice_get}
 use Rattle.std.specs.List.{list_any}
+use Rattle.wtf_base.specs.declared.ids.InodeId.{InodeId}
 use Rattle.wtf_base.specs.declared.kept.Kept.{Kept}
 use Rattle.wtf_base.specs.declared.slice.Slice.{Slice}
 use Rattle.wtf_dev.specs.Store.{StoreKind}
@@ -13,6 +14,7 @@ use Rattle.wtf_model.specs.declared.answer.Answer.{Answer}
 use Rattle.wtf_model.specs.declared.limits.TheConstants.{MAX_REGIONS}
 use Rattle.wtf_model.specs.declared.op.Op.{Op}
 use Rattle.wtf_model.specs.declared.op.Op.TheVariants as op
+use Rattle.wtf_model.specs.Steps.{IsLogged}
 use Rattle.wtf_values.specs.declared.key.Key.{Key}
 use Rattle.wtf_values.specs.declared.key.Key.TheVariants.{Path}
 use Rattle.wtf_values.specs.declared.value.Value.{Value}
@@ -28,13 +30,15 @@ use Rattle.wtf_meta.specs.Maps.{Map, Edits, seen}
 use Rattle.wtf_meta.specs.Sessions.{SessionView, SetsHandle, handle_in, slice_in}
 use Rattle.wtf_meta.specs.Calls.{InHand}
 use Rattle.wtf_region.specs.declared.dev.Dev.{Dev}
-use Rattle.wtf_region.specs.Reads.{TellsFacts}
+use Rattle.wtf_region.specs.Bases.{slices_of, bases_in}
+use Rattle.wtf_region.specs.Reads.{Recalls, TellsFacts}
 use Rattle.wtf_index.specs.Checks.{stands_at}
 use Rattle.wtf_index.specs.Recorded.{target_keys, directory_keys, rmdir_keys, unlink_keys, rename_keys}
 use Rattle.wtf_index.specs.Changed.{mkdir_changes, rmdir_changes, create_changes, unlink_changes, rename_changes, link_changes}
 use Rattle.wtf_steps.specs.Recorded.{append_keys, read_keys, found_in}
 use Rattle.wtf_steps.specs.Made.{Makes, LaysAt, AddsAt}
 use Rattle.wtf_steps.specs.Holding.{LeavesHand, MovesHandle, MovesOn}
+use Rattle.wtf_steps.specs.Recalling.{ReadsFor}
 use Rattle.wtf_rw.specs.Recorded.{open_keys, seek_keys, stat_keys}
 use Rattle.wtf_rw.specs.Changed.{OfSlice, CutsAt, PunchesAt}
 use Rattle.wtf_rw.specs.Held.{OpensFile, held_len}
@@ -43,6 +47,7 @@ use Rattle.wtf_slicing.specs.Recorded.{glue_keys, concat_keys, copy_keys}
 use Rattle.wtf_slicing.specs.Changed.{kept_pieces, IsConcat, IsCopied}
 use Rattle.wtf_slicing.specs.Held.{Yanks, Cuts, Pastes}
 use Rattle.wtf_slicing.specs.Sights.{Sight, sight}
+use Rattle.wtf_slicing.specs.Sources.{sources_of, files_bases}
 use Rattle.wtf_replay.specs.Views.{TxnView, hand_of}
 
 -- whether a handle was opened by a path
@@ -122,6 +127,23 @@ CallHolds x own (op.Cut label off n to) a old new = LeavesHand a (Cuts label off
 CallHolds x own (op.Paste f label) a old new = LeavesHand a (Pastes f label) old new
 CallHolds x own o a old new = new ≡ old
 
+-- lists are, in order, those of the bases under the bytes that are found of n at a handle
+abbrev pub AreFoundAt : Sight → (f n : ℕ) → List ListFact → Type 0
+AreFoundAt x f n lists =
+    (h : Handle) × (handle_in x.hand f ≡ Some h) × (slices_of lists ≡ bases_in x.size (file_of h.inode x.map) h.off (found_in x.size x.map h n))
+
+-- and those of all bases of files, one file behind the other
+abbrev pub AreOfFiles : Sight → List (List ℕ) → List ListFact → Type 0
+AreOfFiles x paths lists = (is : List InodeId) × (sources_of x.map paths ≡ Ok is) × (slices_of lists ≡ files_bases x.size x.map is)
+
+-- The lists that a call asked for that answered a: to read bytes of a file, or to take them as a slice, those under the bytes that are
+-- found, to put files together those of the files, and to be refused none. Any other call asks for none.
+abbrev pub CallReads : {D : Type 0} → Sight → Op D → Answer → Type 0
+CallReads x (op.Read f n) a = ReadsFor a (AreFoundAt x f n) x.lists
+CallReads x (op.Yank f n label) a = ReadsFor a (AreFoundAt x f n) x.lists
+CallReads x (op.Concat q paths) a = ReadsFor a (AreOfFiles x paths) x.lists
+CallReads x o a = x.lists ≡ []
+
 -- an attempt goes on by a call that answered a, of whose n bytes of data the slice `own` is stored: by its keys and changes
 pub record Acts {D : Type 0} (x : Sight) (n : ℕ) (own : Option Slice) (o : Op D) (a : Answer) (old new : Attempted Key Delta) : Type 0 where
   pub base : new.base ≡ old.base
@@ -138,33 +160,57 @@ kept_len o = 0
 abbrev pub sight_at : ℕ → Store Key Value → ℕ → ℕ → InHand → List ListFact → Sight
 sight_at size kv tx k hand lists = sight size (seen kv hand.at) hand.session (record { tx = record { 0 = tx }; index = k + 1 }) lists
 
--- how many bytes a region has, and which lists of slices are known
+-- how many bytes a region has, which lists of slices are known, and whether lists are those that were asked for, one after another
 pub record Scope : Type 1 where
   pub size : ℕ
   pub known : List ListFact → Type 0
+  pub recalls : List ListFact → Type 0
 
--- those that the stores tell that are left, where each byte of the slices was told and lies apart from what was punched
+-- Known are those that the stores tell that are left, where each byte of the slices was told and lies apart from what was punched. Lists
+-- that were asked for were remembered or read, and are remembered.
 abbrev pub scope : {S : Type 0} → StoreKind S → (old new : Dev S) → Scope
-scope kind old new = record { size = old.settings.region; known = TellsFacts kind old new }
+scope kind old new = record { size = old.settings.region; known = TellsFacts kind old new; recalls = Recalls kind old new }
 
--- call k of a transaction, from 0 on, was made once more, and answered what was shown; the lists are known that it read
-pub record Redoes (b : Scope) (kv : Store Key Value) (x : TxnView) (k : ℕ) (old new : InHand) : Type 0 where
+-- call k of a transaction, from 0 on, was made once more and answered a: it recorded its own keys, made its own changes and set what is in
+-- hand, by lists that it asked for and that are known
+pub record MakesAgain (b : Scope) (kv : Store Key Value) (x : TxnView) (k : ℕ) (a : Answer) (old new : InHand) : Type 0 where
   pub op : Op Kept
   pub at_op : slice_get x.log.ops k ≡ Some op
-  pub shown : Answer
-  pub at_shown : slice_get x.log.shown k ≡ Some shown
   pub lists : List ListFact
   pub known : b.known lists
-  pub acts : Acts (sight_at b.size kv x.tx k old lists) (kept_len op) (own_of op) op shown old.at new.at
-  pub holds : CallHolds (sight_at b.size kv x.tx k old lists) (own_of op) op shown old.session new.session
+  pub reads : CallReads (sight_at b.size kv x.tx k old lists) op a
+  pub acts : Acts (sight_at b.size kv x.tx k old lists) (kept_len op) (own_of op) op a old.at new.at
+  pub holds : CallHolds (sight_at b.size kv x.tx k old lists) (own_of op) op a old.session new.session
+  pub logged : IsLogged a
 
--- n calls of a transaction were made once more, one after another, from where it stands, and read these lists
+-- it answered what was shown
+pub record Redoes (b : Scope) (kv : Store Key Value) (x : TxnView) (k : ℕ) (old new : InHand) : Type 0 where
+  pub shown : Answer
+  pub at_shown : slice_get x.log.shown k ≡ Some shown
+  pub makes : MakesAgain b kv x k shown old new
+
+-- n calls of a transaction were made once more and answered what was shown, one after another, from where it stands, and asked for these
+-- lists
 abbrev pub AreRedone : Scope → Store Key Value → TxnView → ℕ → List ListFact → InHand → Type 0
 AreRedone b kv x zero lists hand = (lists ≡ []) × (hand ≡ hand_of x)
 AreRedone b kv x (suc n) lists hand =
     (mid : InHand) × (before : List ListFact) × AreRedone b kv x n before mid
-    × (last : Redoes b kv x (x.replayed + n) mid hand) × (lists ≡ before ++ last.lists)
+    × (last : Redoes b kv x (x.replayed + n) mid hand) × (lists ≡ before ++ last.makes.lists)
 
 -- all that are left
 abbrev pub AllRedone : Scope → Store Key Value → TxnView → List ListFact → InHand → Type 0
 AllRedone b kv x lists hand = AreRedone b kv x (length x.log.ops - x.replayed) lists hand
+
+-- The calls of a transaction deviate at call i, from 1 on: those before it, from where the transaction stands, were made once more and
+-- answered what was shown; it was made once more too, and answered a, which is not what was shown. All these calls asked for those lists
+-- that are recalled.
+pub record StopsAt (b : Scope) (kv : Store Key Value) (x : TxnView) (i : ℕ) (a : Answer) : Type 0 where
+  pub same : ℕ
+  pub counted : i ≡ x.replayed + same + 1
+  pub before : List ListFact
+  pub mid : InHand
+  pub redone : AreRedone b kv x same before mid
+  pub new : InHand
+  pub makes : MakesAgain b kv x (x.replayed + same) a mid new
+  pub differs : slice_get x.log.shown (x.replayed + same) ≢ Some a
+  pub recalls : b.recalls (before ++ makes.lists)

@@ -20,21 +20,22 @@ use Rattle.wtf_meta.specs.Maps.{Map, seen, metadata_at}
 use Rattle.wtf_region.specs.declared.dev.Dev.{Dev}
 use Rattle.wtf_region.specs.Devs.{IsSoundDev, GoesOn, stores, between}
 use Rattle.wtf_region.specs.Inside.{IsStoredInside}
+use Rattle.wtf_region.specs.Reads.{Recalls}
 use Rattle.wtf_region.specs.Showing.{OnlyRead}
 use Rattle.wtf_steps.specs.Faults.{MayFault}
 use Rattle.wtf_steps.specs.Leaving.{LeavesStores}
-use Rattle.wtf_steps.specs.Recalling.{Recalls}
 use Rattle.wtf_replay.specs.Views.{TxnView, rebased, hand_of}
 use Rattle.wtf_replay.specs.Built.{data_len}
 use Rattle.wtf_replay.specs.Refusals.{unmade, try_refusal, step_refusal}
 use Rattle.wtf_replay.specs.Fits.{IsFit}
 use Rattle.wtf_replay.specs.Sounds.{LogStands, TellsMap, IsAwayTxn}
 use Rattle.wtf_replay.specs.Insides.{IsInsideTxn, NamesTxn, NamesNow}
-use Rattle.wtf_replay.specs.Causes.{IsOwnOf, StoresNothing, grown_file, IsCallFault, FaultAt, ReplayFault, IsCommitFault, MayStepFault, MayCommitFault}
+use Rattle.wtf_replay.specs.Causes.{IsOwnOf, IsStillOp, StoresNothing, grown_place, IsCallFault, FaultAt, ReplayFault, IsCommitFault, MayStepFault}
+use Rattle.wtf_replay.specs.Causes.{MayCommitFault}
 use Rattle.wtf_replay.specs.Called.{IsCalled}
 use Rattle.wtf_replay.specs.Tried.{IsAttempted, KeepsMaps, KeepsVersions, KeepsPins, MovesPin, commit_from}
 use Rattle.wtf_replay.specs.Replays.{IsStepped, IsTxnOver, IsEnded, IsTrueAttempt, IsTrueStep, IsTrueEnd}
-use Rattle.wtf_replay.specs.Effects.{Acts, CallHolds, Scope, scope, sight_at, Redoes}
+use Rattle.wtf_replay.specs.Effects.{Acts, CallHolds, CallReads, Scope, scope, sight_at, Redoes, StopsAt}
 use Rattle.wtf_replay.specs.Installs.{IsInstall}
 
 -- a kind of stores; what is lent, the store of versions and the transaction before a verb, and what it leaves of them
@@ -76,13 +77,15 @@ StartsSound t ops =
     × LogStands (region_size t) t.kv (told_before t) t.old ops
 
 -- A call was made and answered a: it is logged, with the slice that was stored of its data; it recorded its own keys, made its own
--- changes and set what is in hand, by lists that it read, which are known and remembered; and what is named is what was, or that slice.
+-- changes and set what is in hand, by the lists that it asked for, which are known and remembered; and what is named is what was, or that
+-- slice.
 pub record IsCallMade {S : Type 0} (t : Turn S) (o : Op (List ℕ)) (a : Answer) : Type 0 where
   pub own : Option Slice
   pub called : IsCalled t.old t.new o own a
   pub lists : List ListFact
   pub known : (scope_of t).known lists
-  pub recalls : Recalls t.before t.after lists
+  pub recalls : Recalls t.kind t.before t.after lists
+  pub reads : CallReads (sight_at (region_size t) t.kv t.old.tx t.old.replayed (hand_of t.old) lists) o a
   pub acts : Acts (sight_at (region_size t) t.kv t.old.tx t.old.replayed (hand_of t.old) lists) (data_len o) own o a t.old.at t.new.at
   pub holds : CallHolds (sight_at (region_size t) t.kv t.old.tx t.old.replayed (hand_of t.old) lists) own o a t.old.session t.new.session
   pub stored : IsOwnOf t.kind t.before t.after (map_in t) t.old.session o own
@@ -101,22 +104,23 @@ pub record CallOf {S : Type 0} (t : Turn S) (o : Op (List ℕ)) (r : Result Answ
   pub err_hand : OnErr r (t.new ≡ record t.old { session = t.new.session })
   pub fault : IfErr r (IsCallFault t.kind t.before t.after (map_in t) t.old.session o)
   pub due : IfErr r (MayFault t.before.settings (map_in t) t.old.session o)
-  pub leaves : LeavesStores t.kind (grown_file t.before (map_in t) t.old.session o) (between t.before t.after)
+  pub leaves : LeavesStores t.kind (grown_place t.before (map_in t) t.old.session o) (data_len o) (between t.before t.after)
   pub reads : StoresNothing o → OnlyRead t.kind (between t.before t.after)
   pub dev : GoesOn t.kind t.before t.after []
 
--- the call that was replayed recorded its own keys, made its own changes and set what is in hand; the lists that it read are
+-- the call that was replayed recorded its own keys, made its own changes and set what is in hand; the lists that it asked for are
 -- remembered
 pub record RedoesNext {S : Type 0} (t : Turn S) : Type 0 where
   pub redoes : Redoes (scope_of t) t.kv t.old t.old.replayed (hand_of t.old) (hand_of t.new)
-  pub recalls : Recalls t.before t.after redoes.lists
+  pub recalls : Recalls t.kind t.before t.after redoes.makes.lists
 
+-- or it was made once more, and answered otherwise than was shown
 abbrev pub ActsAgain : {S : Type 0} → Turn S → Answer → Type 0
 ActsAgain t (answer.Replayed i) = RedoesNext t
-ActsAgain t (Aborted' i box a) = Unit {0}
+ActsAgain t (Aborted' i box a) = StopsAt (scope_of t) t.kv t.old i a
 ActsAgain t a = ⊥
 
--- a replay of the next call, with its result
+-- a replay of the next call, with its result; a call that needs no store leaves what is lent
 pub record StepOf {S : Type 0} (t : Turn S) (r : Result Answer Fault) : Type 0 where
   pub refused : IfSome (step_refusal t.old) (λ w. (r ≡ Ok (answer.Refused w)) × (t.new ≡ t.old) × (t.after ≡ t.before))
   pub stepped : step_refusal t.old ≡ None → IfOk r (λ a. IsStepped t.old t.new a)
@@ -130,6 +134,7 @@ pub record StepOf {S : Type 0} (t : Turn S) (r : Result Answer Fault) : Type 0 w
   pub fault : IfErr r (λ why. (why ≡ Memory) ⊎ FaultAt t.kind t.before t.after t.kv (hand_of t.old) (slice_get t.old.log.ops t.old.replayed) why)
   pub due : IfErr r (λ why. (ops : List (Op (List ℕ))) → LogStands (region_size t) t.kv (told_before t) t.old ops
       → MayStepFault t.before.settings (metadata_at t.kv t.old.at.base) (told_before t) t.old ops why)
+  pub still : IfSome (slice_get t.old.log.ops t.old.replayed) (λ o. IsStillOp o → t.after ≡ t.before)
   pub reads : OnlyRead t.kind (between t.before t.after)
   pub dev : GoesOn t.kind t.before t.after []
 

@@ -1,5 +1,6 @@
 -- What one call of a transaction is lent and leaves, and what it does with that.
-use Rattle.std.specs.Prelude.{◌≡◌, ◌⊎◌, ◌↔◌, ℕ, ◌+◌, Bool, List, [], Option, None, Some, Result, IsTrue, IsSome, IfOk, IfErr, OnOk, OnErr, length, slice_get, ⊤}
+use Rattle.std.specs.Prelude.{◌≡◌, ◌⊎◌, ◌↔◌, ℕ, ◌+◌, Bool, List, [], Option, None, Some, Result, IsTrue, IsSome, IfOk, IfErr, IfSome, OnOk, OnErr}
+use Rattle.std.specs.Prelude.{length, slice_get, ⊤}
 use Rattle.wtf_base.specs.declared.fault.Fault.{Fault}
 use Rattle.wtf_base.specs.declared.ids.InodeId.{InodeId}
 use Rattle.wtf_base.specs.declared.kept.Kept.{Kept}
@@ -23,11 +24,10 @@ use Rattle.wtf_meta.specs.Maps.{Map, AllFit, metadata_at, seen}
 use Rattle.wtf_meta.specs.Calls.{Caller, InHand, TellFacts, IsStep}
 use Rattle.wtf_region.specs.declared.dev.Dev.{Dev}
 use Rattle.wtf_region.specs.Devs.{GoesOn, RemembersTrue, told_in, between}
-use Rattle.wtf_region.specs.Reads.{TellsFacts, AreInsideLists}
+use Rattle.wtf_region.specs.Reads.{Recalls, TellsFacts, AreInsideLists}
 use Rattle.wtf_region.specs.Showing.{OnlyRead}
 use Rattle.wtf_steps.specs.Faults.{MayFault}
 use Rattle.wtf_steps.specs.Leaving.{LeavesStores}
-use Rattle.wtf_steps.specs.Recalling.{Recalls}
 use Rattle.wtf_steps.specs.Scenes.{Scene}
 use Rattle.wtf_rw.specs.declared.op.Done.{Done}
 use Rattle.wtf_rw.specs.Stored.{SliceBytes, TellSlice}
@@ -38,9 +38,9 @@ use Rattle.wtf_replay.specs.Built.{IsPlainOp, call_data, data_len}
 use Rattle.wtf_replay.specs.Keeps.{IsWholeOp, IsKeptFor, LacksData}
 use Rattle.wtf_replay.specs.Sounds.{LogStands, IsDue, TellsMap, TellsHand, IsAwayTxn, tells_slice}
 use Rattle.wtf_replay.specs.Insides.{IsKnown, NamesAgain}
-use Rattle.wtf_replay.specs.Causes.{IsOwnOf, StoresNothing, grown_file, IsStillOp, IsCallFault, IsAgainFault, MayAgainFault, FaultAt, ReplayFault}
+use Rattle.wtf_replay.specs.Causes.{IsOwnOf, StoresNothing, grown_place, IsStillOp, IsCallFault, IsAgainFault, MayAgainFault, FaultAt, ReplayFault}
 use Rattle.wtf_replay.specs.Replays.{IsReplay}
-use Rattle.wtf_replay.specs.Effects.{Acts, CallHolds, kept_len, scope, AllRedone}
+use Rattle.wtf_replay.specs.Effects.{Acts, CallHolds, CallReads, kept_len, scope, AllRedone, StopsAt}
 
 -- a kind of stores; what is lent before a call and what it leaves; the store of versions; and the attempt with what is in hand,
 -- before and after
@@ -92,11 +92,12 @@ pub record IsWork {S : Type 0} (w : Work S) (x : Caller) (own : Option Slice) (o
   pub facts : (ranges : List (ℕ × Range)) → TellsHand w.kind w.before ranges (saw w) w.old.session → TellSlice (told_now w) own (call_data o)
       → TellFacts (told_now w) step.did.facts
 
--- and it recorded its keys, made its changes and set what is in hand, by lists that it read and that are known
+-- and it recorded its keys, made its changes and set what is in hand, by lists that it asked for, which are known and remembered
 pub record Acted {S D : Type 0} (w : Work S) (made : InodeId) (n : ℕ) (own : Option Slice) (o : Op D) (a : Answer) : Type 0 where
   pub lists : List ListFact
   pub known : TellsFacts w.kind w.before w.after lists
-  pub recalls : Recalls w.before w.after lists
+  pub recalls : Recalls w.kind w.before w.after lists
+  pub reads : CallReads (sight_of w made lists) o a
   pub acts : Acts (sight_of w made lists) n own o a w.old.at w.new.at
   pub holds : CallHolds (sight_of w made lists) own o a w.old.session w.new.session
 
@@ -137,7 +138,7 @@ pub record FreshOf {S : Type 0} (w : Work S) (made : InodeId) (o : Op (List ℕ)
   pub fault : IfErr r (IsCallFault w.kind w.before w.after (saw w) w.old.session o)
   pub due : IfErr r (MayFault w.before.settings (saw w) w.old.session o)
   pub grows : Grows w.old.at w.new.at
-  pub leaves : LeavesStores w.kind (grown_file w.before (saw w) w.old.session o) (between w.before w.after)
+  pub leaves : LeavesStores w.kind (grown_place w.before (saw w) w.old.session o) (data_len o) (between w.before w.after)
   pub reads : StoresNothing o → OnlyRead w.kind (between w.before w.after)
   pub dev : GoesOn w.kind w.before w.after []
 
@@ -159,6 +160,7 @@ pub record AgainOf {S : Type 0} (w : Work S) (made : InodeId) (k : Op Kept) (r :
   pub fault : IfErr r (IsAgainFault w.kind w.before w.after (saw w) w.old.session k)
   pub may : IfErr r (MayAgainFault w.before.settings (saw w) w.old.session k)
   pub grows : Grows w.old.at w.new.at
+  pub still : IsStillOp k → w.after ≡ w.before
   pub reads : OnlyRead w.kind (between w.before w.after)
   pub dev : GoesOn w.kind w.before w.after []
 
@@ -172,13 +174,14 @@ pub record IsNext {S : Type 0} (w : Work S) (tx : ℕ) (log : Calls) (k : ℕ) (
   pub at_op : slice_get log.ops k ≡ Some op
   pub again : IsAgain w (inode_at tx k) op a
 
--- with its result: its answer, and whether that is what was shown
+-- with its result: its answer, and whether that is what was shown; a call that needs no store leaves what is lent
 pub record NextOf {S : Type 0} (w : Work S) (tx : ℕ) (log : Calls) (k : ℕ) (r : Result (Answer × Bool) Fault) : Type 0 where
   pub next : IfOk r (λ q. IsNext w tx log k q.0)
   pub same : IfOk r (λ q. IsTrue q.1 ↔ (slice_get log.shown k ≡ Some q.0))
   pub err : OnErr r (IsWorkLeft w)
   pub fault : IfErr r (FaultAt w.kind w.before w.after w.kv w.old (slice_get log.ops k))
   pub grows : Grows w.old.at w.new.at
+  pub still : IfSome (slice_get log.ops k) (λ o. IsStillOp o → w.after ≡ w.before)
   pub reads : OnlyRead w.kind (between w.before w.after)
   pub dev : GoesOn w.kind w.before w.after []
 
@@ -187,7 +190,9 @@ pub record ReplayOf {S : Type 0} (w : Work S) (x : TxnView) (r : Result (Option 
   pub replay : IfOk r (λ q. (ops : List (Op (List ℕ))) (ranges : List (ℕ × Range)) → TellsMap w.kind w.before ranges (metadata_at w.kv x.at.base)
       → IsAwayTxn w.kind w.before ranges w.kv x → LogStands (work_region_size w) w.kv (told_then w) x ops
       → IsReplay (work_region_size w) w.kv (told_then w, told_now w) (replaying x.tx w.new.at w.new.session x.log (length x.log.ops)) ops q)
-  pub redone : IfOk r (λ q. q ≡ None → (lists : List ListFact) × AllRedone (scope w.kind w.before w.after) w.kv x lists w.new × Recalls w.before w.after lists)
+  pub redone : IfOk r (λ q. q ≡ None
+      → (lists : List ListFact) × AllRedone (scope w.kind w.before w.after) w.kv x lists w.new × Recalls w.kind w.before w.after lists)
+  pub stops : IfOk r (λ q. IfSome q (λ p. StopsAt (scope w.kind w.before w.after) w.kv x p.0 p.1))
   pub named : OnOk r (NamesAgain w.kind w.before w.after w.kv w.old w.new x.log)
   pub fault : IfErr r (ReplayFault w.kind w.before w.after w.kv x)
   pub fit : AllFit w.new.at.changes (metadata_at w.kv w.new.at.base)

@@ -1,4 +1,5 @@
 use Rattle.std.proofs.Common.{◌≡◌, nat_eq, count_by, length, refl, sym, ap, ◌∙◌, subst, inl, inr}
+use Rattle.std.specs.Prelude.{IfSome}
 use Rattle.std.proofs.lemmas.Result.{IfOk-weaker, IfErr-weaker}
 use Rattle.wtf_replica.specs.Bytes.{byte_at}
 use Rattle.wtf_occ.specs.Attempts.{Attempted, Grows}
@@ -14,7 +15,7 @@ use Rattle.wtf_replay.specs.Views.{TxnView, in_hand, replaying}
 use Rattle.wtf_replay.specs.Insides.{NamesNow}
 use Rattle.wtf_replay.specs.Sounds.{TellsMap}
 use Rattle.wtf_replay.specs.Replays.{IsReplay}
-use Rattle.wtf_replay.specs.Effects.{scope}
+use Rattle.wtf_replay.specs.Effects.{scope, StopsAt}
 use Rattle.wtf_replay.proofs.Naming.{named_none, named_by}
 use Rattle.wtf_replay.proofs.Trying.{final_from}
 use Rattle.wtf_replay.proofs.Ending.{ended_aborted, true_end_aborted, final_as, on_ok_any, on_err_any}
@@ -66,9 +67,11 @@ returns-in-Some-clause-made g c =
     let i = c.in-Some.both.0 in
     let a = c.in-Some.both.1 in
     let base : kv.number ≡ c.replay_from.new.at.base = sym (made.grows.base ∙ c.requires.base) in
+    let stops : StopsAt (scope kind dev into) kv old i a =
+    subst (λ z. IfSome z (λ p. StopsAt (scope kind dev into) kv old p.0 p.1)) c.in-Some.is made.stops in
     record {
       ended = IfOk-weaker r _ _ (λ q at. ended_aborted q i a kv kv at refl) is.made;
-      installs = IfOk-weaker r _ _ (λ q at. install_aborted q i a (scope kind dev into) kv kv old at (λ k. refl)) is.made;
+      installs = IfOk-weaker r _ _ (λ q at. install_aborted q i a (scope kind dev into) kv kv old at (record { stops = stops; versions = λ k. refl })) is.made;
       meaning = IfOk-weaker r _ _ (λ q at ops start.
           let map : TellsMap kind dev start.0 (metadata_at kv c.args.at.now.base) =
           subst (λ n. TellsMap kind dev start.0 (metadata_at kv n)) (sym c.requires.base) start.1 in
@@ -106,7 +109,8 @@ returns-in-Ok-install_now-clause-made g c =
     let redone = made.redone c.in_default.is in
     record {
       ended = (installed.next, installed.number);
-      installs = installs_from (scope kind dev into) kv after old redone.0 (in_hand c.replay_from.new.at c.replay_from.new.session) n redone.1 installed;
+      installs = installs_from (scope kind dev into) kv after old redone.0 (in_hand c.replay_from.new.at c.replay_from.new.session) n redone.1 redone.2
+          installed;
       meaning = λ ops start.
           let map : TellsMap kind dev start.0 (metadata_at kv c.args.at.now.base) =
           subst (λ m. TellsMap kind dev start.0 (metadata_at kv m)) (sym c.requires.base) start.1 in

@@ -1,6 +1,10 @@
-use Rattle.std.proofs.Common.{◌≡◌, ◌+◌, ◌-◌, Some, slice_get, sym, ap, ◌∙◌, arith}
+use Rattle.std.proofs.Common.{◌≡◌, ◌+◌, ◌-◌, Option, Some, slice_get, sym, ap, ◌∙◌, subst, arith}
+use Rattle.std.specs.Prelude.{IfSome}
+use Rattle.wtf_base.specs.declared.kept.Kept.{Kept}
+use Rattle.wtf_model.specs.declared.op.Op.{Op}
 use Rattle.wtf_model.specs.Form.{IsFormOp, IsKeptData}
 use Rattle.wtf_model.specs.Steps.{IsLogged}
+use Rattle.wtf_replay.specs.Causes.{IsStillOp}
 use Rattle.wtf_replay.proofs.Keeping.{at_all}
 use Rattle.wtf_replay.proofs.replay.make_again.Goals as goal
 
@@ -18,10 +22,11 @@ returns g c =
     let k = c.args.k in
     let down : k + 1 - 1 ≡ k = omega arith in
     let made = c.in-Ok.ensures.made in
+    let here : slice_get log.ops k ≡ Some c.op-op.result.now = ap (slice_get log.ops) (sym down) ∙ c.op-op.ensures in
     let shown : slice_get log.shown k ≡ Some c.shown.result.now = ap (slice_get log.shown) (sym down) ∙ c.shown.ensures in
     record {
       made = record {
-        next = record { op = c.op-op.result.now; at_op = ap (slice_get log.ops) (sym down) ∙ c.op-op.ensures; again = made.again };
+        next = record { op = c.op-op.result.now; at_op = here; again = made.again };
         same = (
           λ hit. shown ∙ ap Some (c.is_same_answer-same.ensures.0 hit),
           λ is. c.is_same_answer-same.ensures.1 (let there : Some c.shown.result.now ≡ Some c.in-Ok.answer = sym shown ∙ is in cc),
@@ -29,6 +34,7 @@ returns g c =
         err = tt;
         fault = tt;
         grows = made.grows;
+        still = subst (λ (q : Option (Op Kept)). IfSome q (λ o. IsStillOp o → c.make_stored.new.dev ≡ c.args.dev.now)) (sym here) made.still;
         reads = made.reads;
         dev = made.dev;
       };
@@ -39,14 +45,16 @@ returns-in-Err g c =
     let log = c.args.log.now in
     let k = c.args.k in
     let down : k + 1 - 1 ≡ k = omega arith in
+    let here : slice_get log.ops k ≡ Some c.op-op.result.now = ap (slice_get log.ops) (sym down) ∙ c.op-op.ensures in
     let made = c.in-Err.ensures.made in
     record {
       made = record {
         next = tt;
         same = tt;
         err = made.err;
-        fault = record { op = c.op-op.result.now; at_op = ap (slice_get log.ops) (sym down) ∙ c.op-op.ensures; cause = made.fault; due = made.may };
+        fault = record { op = c.op-op.result.now; at_op = here; cause = made.fault; due = made.may };
         grows = made.grows;
+        still = subst (λ (q : Option (Op Kept)). IfSome q (λ o. IsStillOp o → c.make_stored.new.dev ≡ c.args.dev.now)) (sym here) made.still;
         reads = made.reads;
         dev = made.dev;
       };

@@ -2,20 +2,23 @@ use Rattle.std.proofs.Common.{ℕ, Option, None, sym, subst}
 use Rattle.wtf_region.specs.Devs.{stores, between}
 use Rattle.wtf_meta.specs.Maps.{seen}
 use Rattle.wtf_model.specs.Form.{IsData}
+use Rattle.wtf_ring.specs.Points.{PlaceView}
+use Rattle.wtf_rw.specs.Ops.{rw_len}
+use Rattle.wtf_replay.specs.Causes.{grown_place}
 use Rattle.wtf_steps.specs.Faults.{MayFault}
 use Rattle.wtf_steps.specs.Leaving.{LeavesStores}
 use Rattle.wtf_steps.proofs.Leaving.{leaves_read}
 use Rattle.wtf_slicing.specs.Sights.{sight}
 use Rattle.wtf_replay.specs.Views.{in_hand}
-use Rattle.wtf_replay.specs.Built.{call_data, data_len}
+use Rattle.wtf_replay.specs.Built.{IsFresh, call_data, data_len}
 use Rattle.wtf_replay.specs.Sounds.{tells_slice}
 use Rattle.wtf_replay.specs.Works.{work, told_now}
-use Rattle.wtf_replay.proofs.EffectLaws.{acts_fresh, holds_fresh}
+use Rattle.wtf_replay.proofs.EffectLaws.{reads_rw, acts_fresh, holds_fresh}
 use Rattle.wtf_replay.proofs.Insiding.{hand_seen}
 use Rattle.wtf_replay.proofs.Making.{rw_work}
 use Rattle.wtf_replay.proofs.OpLaws.{made_as, plain_self, form_plain}
 use Rattle.wtf_replay.proofs.RwLaws.{fresh_ways, fresh_tell, own_len_of}
-use Rattle.wtf_replay.proofs.SliceLaws.{plain_own, plain_lacks, plain_file, plain_fault}
+use Rattle.wtf_replay.proofs.SliceLaws.{plain_own, plain_lacks, plain_place, plain_fault}
 use Rattle.wtf_replay.proofs.replay.make_fresh.Goals as goal
 
 pub call-requires-clause-inside : goal.call-requires-clause-inside
@@ -56,6 +59,7 @@ returns-in-Ok g c =
             lists = lists;
             known = call.recalls.known;
             recalls = call.recalls.recalls;
+            reads = reads_rw dev.settings.region b s c.args.new d.answer lists IsFresh r o c.in-Some.ensures call.recalls.reads;
             acts = acts_fresh dev.settings.region b s c.args.new d.answer c.args.at.now c.call.new.at call.grows.base lists
                 r o d.own c.in-Some.ensures call.keys call.made;
             holds = holds_fresh (sight dev.settings.region b s c.args.new lists) s c.call.new.s d.answer r o d.own c.in-Some.ensures
@@ -70,7 +74,8 @@ returns-in-Ok g c =
         fault = tt;
         due = tt;
         grows = call.grows;
-        leaves = subst (λ (f : Option ℕ). LeavesStores kind f (between dev into)) (ways.file) call.leaves;
+        leaves = subst (λ (n : ℕ). LeavesStores kind (grown_place dev b s o) n (between dev into)) ways.len
+            (subst (λ (p : Option PlaceView). LeavesStores kind p (rw_len r) (between dev into)) ways.place call.leaves);
         reads = λ none. call.reads (ways.none none);
         dev = call.dev;
       };
@@ -94,7 +99,8 @@ returns-in-Err g c =
         fault = ways.fault c.in-Err.why call.fault;
         due = subst (λ q. MayFault dev.settings b s q c.in-Err.why) made.is (call.due (call_data o) made.writes);
         grows = call.grows;
-        leaves = subst (λ (f : Option ℕ). LeavesStores kind f (between dev c.call.new.dev)) (ways.file) call.leaves;
+        leaves = subst (λ (n : ℕ). LeavesStores kind (grown_place dev b s o) n (between dev c.call.new.dev)) ways.len
+            (subst (λ (p : Option PlaceView). LeavesStores kind p (rw_len r) (between dev c.call.new.dev)) ways.place call.leaves);
         reads = λ none. call.reads (ways.none none);
         dev = call.dev;
       };
@@ -121,9 +127,9 @@ returns-in-Ok-make_plain g c =
         fault = tt;
         due = tt;
         grows = plain.grows;
-        leaves = subst (λ (f : Option ℕ). LeavesStores g.S.SliceStore.kind f (between c.args.dev.now c.make_plain.new.dev))
-            (sym (plain_file c.args.dev.now b c.args.session.now o c.in-None.ensures))
-            (leaves_read g.S.SliceStore.kind (between c.args.dev.now c.make_plain.new.dev) plain.reads);
+        leaves = subst (λ (p : Option PlaceView). LeavesStores g.S.SliceStore.kind p (data_len o) (between c.args.dev.now c.make_plain.new.dev))
+            (sym (plain_place c.args.dev.now b c.args.session.now o c.in-None.ensures))
+            (leaves_read g.S.SliceStore.kind (between c.args.dev.now c.make_plain.new.dev) (data_len o) plain.reads);
         reads = λ none. plain.reads;
         dev = plain.dev;
       };
@@ -142,9 +148,9 @@ returns-in-Err-make_plain g c =
             c.in-Err-make_plain.why plain.fault;
         due = plain.due o (plain_self o c.in-None.ensures);
         grows = plain.grows;
-        leaves = subst (λ (f : Option ℕ). LeavesStores g.S.SliceStore.kind f (between c.args.dev.now c.make_plain.new.dev))
-            (sym (plain_file c.args.dev.now b c.args.session.now o c.in-None.ensures))
-            (leaves_read g.S.SliceStore.kind (between c.args.dev.now c.make_plain.new.dev) plain.reads);
+        leaves = subst (λ (p : Option PlaceView). LeavesStores g.S.SliceStore.kind p (data_len o) (between c.args.dev.now c.make_plain.new.dev))
+            (sym (plain_place c.args.dev.now b c.args.session.now o c.in-None.ensures))
+            (leaves_read g.S.SliceStore.kind (between c.args.dev.now c.make_plain.new.dev) (data_len o) plain.reads);
         reads = λ none. plain.reads;
         dev = plain.dev;
       };

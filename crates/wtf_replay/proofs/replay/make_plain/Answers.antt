@@ -3,13 +3,14 @@ use Rattle.std.proofs.lemmas.Result.{IfOk-weaker, IfErr-weaker, on_err_weaker}
 use Rattle.wtf_base.specs.declared.fault.Fault.TheVariants as fault
 use Rattle.wtf_meta.specs.Maps.{seen}
 use Rattle.wtf_region.specs.Devs.{stores, is_down_in}
+use Rattle.wtf_region.proofs.Recalls.{recalls_same}
 use Rattle.wtf_region.proofs.ShowLaws.{reads_nothing}
 use Rattle.wtf_region.proofs.Spans.{goes_nowhere}
 use Rattle.wtf_steps.specs.Faults.{MayFault}
 use Rattle.wtf_slicing.specs.Sights.{sight}
 use Rattle.wtf_replay.specs.Views.{in_hand}
 use Rattle.wtf_replay.specs.Works.{work, scene_of}
-use Rattle.wtf_replay.proofs.EffectLaws.{if_all, acts_slice, holds_slice}
+use Rattle.wtf_replay.proofs.EffectLaws.{if_all, reads_slice, reads_name, acts_slice, holds_slice}
 use Rattle.wtf_replay.proofs.Insiding.{hand_seen}
 use Rattle.wtf_replay.proofs.Looking.{name_work}
 use Rattle.wtf_replay.proofs.SliceLaws.{memory_fault, memory_due, slice_ways, slice_work}
@@ -49,6 +50,7 @@ returns-in-Some g c =
               lists = lists;
               known = one.recalls.known;
               recalls = one.recalls.recalls;
+              reads = reads_slice dev.settings.region b s c.args.new a lists made op c.in-Some.ensures one.recalls.reads;
               acts = acts_slice dev.settings.region b s c.args.new a c.args.at.now c.call.new.at call.grows.base lists
                   n own made op c.in-Some.ensures keys one.makes;
               holds = holds_slice (sight dev.settings.region b s c.args.new lists) s c.call.new.s a own made op c.in-Some.ensures one.holds;
@@ -81,13 +83,15 @@ returns-in-None g c =
         acted = IfOk-weaker c.make_name.result _ _ (λ a named n own. record {
           lists = [];
           known = λ ranges cache told away. tt;
-          recalls = refl;
+          recalls = recalls_same kind dev dev refl;
+          reads = reads_name (sight dev.settings.region b s c.args.new []) op a c.requires.plain c.in-None.ensures refl;
           acts = named.acts dev.settings.region n own;
           holds = named.holds dev.settings.region own;
         }) name.named;
         logged = IfOk-weaker c.make_name.result _ _ (λ a named. named.logged) name.named;
         err = on_err_weaker c.make_name.result (λ same. (same, refl)) name.err;
-        fault = IfErr-weaker c.make_name.result _ _ (λ why is. memory_fault (scene_of w) (λ d y. y ≡ fault.Memory) s op why (λ d. is) is) name.fault;
+        fault = IfErr-weaker c.make_name.result _ _
+            (λ why is. memory_fault (scene_of w) (λ d y. y ≡ fault.Memory) s op why (λ d. is) (λ peeks. refl) is) name.fault;
         due = IfErr-weaker c.make_name.result _ _ (λ why is p plain. memory_due dev.settings b s p why is) name.fault;
         grows = name.grows;
         still = λ quiet. refl;

@@ -18,10 +18,11 @@ use Rattle.wtf_rw.specs.Ops.{op_of, rw_keys, IsWhole}
 use Rattle.wtf_rw.specs.Stored.{SliceBytes}
 use Rattle.wtf_slicing.specs.Sights.{sight}
 use Rattle.wtf_replay.specs.Views.{in_hand}
+use Rattle.wtf_replay.specs.Built.{IsStored}
 use Rattle.wtf_replay.specs.Effects.{kept_len}
 use Rattle.wtf_replay.specs.Sounds.{tells_slice, IsDue}
 use Rattle.wtf_replay.specs.Works.{IsCaller, IsWork, work, told_then, told_now}
-use Rattle.wtf_replay.proofs.EffectLaws.{acts_again, holds_again}
+use Rattle.wtf_replay.proofs.EffectLaws.{reads_rw, acts_again, holds_again}
 use Rattle.wtf_replay.proofs.Insiding.{hand_seen}
 use Rattle.wtf_replay.proofs.Later.{tells_on}
 use Rattle.wtf_replay.proofs.Making.{rw_work, refused_work, due_step, due_alone}
@@ -100,6 +101,7 @@ returns-in-Ok g c =
             lists = lists;
             known = call.recalls.known;
             recalls = call.recalls.recalls;
+            reads = reads_rw dev.settings.region b s c.args.new d.answer lists IsStored r k c.in-Some.ensures call.recalls.reads;
             acts = acts_again dev.settings.region b s c.args.new d.answer c.args.at.now c.call.new.at call.grows.base lists
                 r k d.own c.in-Some.ensures call.keys call.made;
             holds = holds_again (sight dev.settings.region b s c.args.new lists) s c.call.new.s d.answer r k c.in-Some.ensures call.holds;
@@ -110,6 +112,7 @@ returns-in-Ok g c =
         fault = tt;
         may = tt;
         grows = call.grows;
+        still = λ quiet. call.still (ways.still quiet);
         reads = call.reads ways.none;
         dev = call.dev;
       };
@@ -134,6 +137,7 @@ returns-in-Err g c =
             let gave = brought_for (λ p bytes. Unit {0}) r k o c.in-Some.ensures stands in
             subst (λ q. MayFault dev.settings b s q c.in-Err.why) gave.is (call.due gave.bytes gave.writes);
         grows = call.grows;
+        still = λ quiet. call.still (ways.still quiet);
         reads = call.reads ways.none;
         dev = call.dev;
       };
@@ -166,6 +170,7 @@ returns-in-Ok-make_plain g c =
         fault = tt;
         may = tt;
         grows = plain.grows;
+        still = plain.still;
         reads = plain.reads;
         dev = plain.dev;
       };
@@ -183,6 +188,7 @@ returns-in-Err-make_plain g c =
         fault = plain.fault;
         may = λ o stands. plain.due o (stands_plain (λ p bytes. Unit {0}) k o c.in-None.ensures stands);
         grows = plain.grows;
+        still = plain.still;
         reads = plain.reads;
         dev = plain.dev;
       };

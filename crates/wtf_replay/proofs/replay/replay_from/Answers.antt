@@ -7,8 +7,8 @@ use Rattle.wtf_values.specs.declared.key.Key.{Key}
 use Rattle.wtf_values.specs.declared.value.Delta.{Delta}
 use Rattle.wtf_meta.specs.Maps.{AllFit, metadata_at}
 use Rattle.wtf_meta.specs.Trees.{Stands}
-use Rattle.wtf_region.specs.Devs.{stores, remembered, is_down_in}
-use Rattle.wtf_region.proofs.Recalling.{recalled_on}
+use Rattle.wtf_region.specs.Devs.{stores, is_down_in}
+use Rattle.wtf_region.proofs.Recalls.{recalls_same, recalls_on}
 use Rattle.wtf_region.proofs.ShowLaws.{reads_nothing, reads_over}
 use Rattle.wtf_region.proofs.Spans.{goes_nowhere, goes_on}
 use Rattle.wtf_replay.specs.Views.{in_hand, replaying}
@@ -20,9 +20,9 @@ use Rattle.wtf_replay.proofs.Again.{again_same, again_other}
 use Rattle.wtf_replay.proofs.Insiding.{log_later}
 use Rattle.wtf_replay.proofs.Later.{tells_on, tells_map_on, deviates_since}
 use Rattle.wtf_replay.proofs.Naming.{named_none, again_on, replay_away}
-use Rattle.wtf_replay.proofs.Stepping.{next_named, next_fit, next_told, next_due, next_redoes, again_inside}
+use Rattle.wtf_replay.proofs.Stepping.{next_named, next_fit, next_told, next_due, next_makes, next_redoes, again_inside}
 use Rattle.wtf_replay.specs.Effects.{Scope, scope, AreRedone}
-use Rattle.wtf_replay.proofs.EffectLaws.{redone_none, redone_more, redo_later, redone_later}
+use Rattle.wtf_replay.proofs.EffectLaws.{redone_none, redone_more, stops_at, makes_later, redo_later, redone_later}
 use Rattle.wtf_replay.proofs.Scopes.{scope_later, scope_since}
 use Rattle.wtf_replay.proofs.replay.replay_from.Goals as goal
 
@@ -49,13 +49,13 @@ loop-k-init g c =
         [],
         redone_none (scope kind dev dev) kv (replaying c.args.tx.0 c.args.at.now c.args.session.now log c.args.from) (c.args.from - c.args.from) hand
             (omega arith) refl,
-        refl,
+        recalls_same kind dev dev refl,
       );
       sound = λ ops ranges tells away start. start;
     }
 
 pub loop-k-preserved : goal.loop-k-preserved
-unfolding redo_later next_redoes
+unfolding redo_later makes_later next_redoes next_makes
 loop-k-preserved g c =
     let kind = g.S.SliceStore.kind in
     let laws = g.met.S.SliceStore.laws in
@@ -102,11 +102,11 @@ loop-k-preserved g c =
       redone =
           let one = redo_later (scope kind mid new) whole (sym size) (scope_since laws new inv.dev) kv start c.loop-k.k there next
           (next_redoes w c.args.tx.0 log c.loop-k.k a made.next shown start refl refl) in (
-            inv.redone.0 ++ one.lists,
+            inv.redone.0 ++ one.makes.lists,
             redone_more whole kv start (c.loop-k.k - c.args.from) (c.loop-k.k + 1 - c.args.from) c.loop-k.k inv.redone.0 there next (omega (arith, from)) here
                 (redone_later (scope kind dev mid) whole refl (scope_later laws dev made.dev) kv start
                 (c.loop-k.k - c.args.from) inv.redone.0 there inv.redone.1) one,
-            recalled_on inv.redone.0 one.lists (remembered dev) (remembered mid) (remembered new) inv.redone.2 made.next.again.acted.recalls,
+            recalls_on laws inv.dev made.dev inv.redone.0 one.makes.lists inv.redone.2 made.next.again.acted.recalls,
           );
       sound = λ ops ranges tells away begins.
           let tells_mid : TellsMap kind mid ranges (metadata_at kv c.loop-k.at.base) =
@@ -131,6 +131,7 @@ returns-in-Err g c =
       made = record {
         replay = tt;
         redone = tt;
+        stops = tt;
         named = tt;
         fault = record {
           mid = c.loop-k.dev;
@@ -156,6 +157,7 @@ returns-in-Err g c =
 
 -- or answered otherwise than was shown
 pub returns-then-not-same : goal.returns-then-not-same
+unfolding makes_later next_makes
 returns-then-not-same g c =
     let kind = g.S.SliceStore.kind in
     let laws = g.met.S.SliceStore.laws in
@@ -176,6 +178,11 @@ returns-then-not-same g c =
     let w = work kind mid new kv there next in
     let made = c.in-Ok.ensures.made in
     let a = c.in-Ok.both.0 in
+    let from = inv.from in
+    let here : c.loop-k.k ≡ begun.replayed + (c.loop-k.k - c.args.from) = omega (arith, from) in
+    let whole : Scope = scope kind dev new in
+    let differs : slice_get log.shown c.loop-k.k ≢ Some a = λ e.
+    let hit : c.in-Ok.both.1 ≡ true = made.same.1 e in let bad : true ≡ false = sym hit ∙ c.if-not-same.true in cc in
     record {
       made = record {
         replay = λ ops ranges tells away start.
@@ -186,15 +193,19 @@ returns-then-not-same g c =
             let sound : LogStands mid.settings.region kv (byte_at kind (stores mid)) x ops =
             subst (λ z. LogStands z kv (byte_at kind (stores mid)) x ops) (sym size)
             (inv.sound ops ranges tells away start) in
-            let differs : slice_get log.shown c.loop-k.k ≢ Some a = λ e.
-            let hit : c.in-Ok.both.1 ≡ true = made.same.1 e in let bad : true ≡ false = sym hit ∙ c.if-not-same.true in cc in
             let other = again_other laws made.dev ranges kv x ops sound tells_mid away_mid left a
             (λ kept o at. next_due w c.args.tx.0 log c.loop-k.k a made.next ranges kept o at) differs in
-            let here = subst (λ z. DeviatesOn (metadata_at kv c.loop-k.at.base) z (byte_at kind (stores mid)) x ops (c.loop-k.k + 1) a) size other in
+            let there_too = subst (λ z. DeviatesOn (metadata_at kv c.loop-k.at.base) z (byte_at kind (stores mid)) x ops (c.loop-k.k + 1) a) size other in
             let first = deviates_since (metadata_at kv c.loop-k.at.base) dev.settings.region (byte_at kind (stores dev)) (byte_at kind (stores mid)) x ops
-            (c.loop-k.k + 1) a (tells_on laws inv.dev.each) here in
+            (c.loop-k.k + 1) a (tells_on laws inv.dev.each) there_too in
             λ t st. first t (subst (λ b. Stands dev.settings.region (byte_at kind (stores dev)) c.args.tx.0 0 (metadata_at kv b) t) made.grows.base st);
         redone = λ none. absurd (cc);
+        stops =
+            let one = makes_later (scope kind mid new) whole (sym size) (scope_since laws new inv.dev) kv begun c.loop-k.k a there next
+            (next_makes w c.args.tx.0 log c.loop-k.k a made.next begun refl refl) in
+            stops_at whole kv begun (c.loop-k.k - c.args.from) c.loop-k.k inv.redone.0 there next a here
+            (redone_later (scope kind dev mid) whole refl (scope_later laws dev made.dev) kv begun (c.loop-k.k - c.args.from) inv.redone.0 there inv.redone.1)
+            one differs (recalls_on laws inv.dev made.dev inv.redone.0 one.lists inv.redone.2 made.next.again.acted.recalls);
         named = again_on laws inv.dev made.dev kv (in_hand c.args.at.now c.args.session.now) there next log inv.named
             (next_named w c.args.tx.0 log c.loop-k.k a made.next);
         fault = tt;
@@ -228,6 +239,7 @@ returns g c =
               inv.redone.0 (in_hand c.loop-k.at c.loop-k.session)) all inv.redone.1,
           inv.redone.2,
         );
+        stops = tt;
         named = inv.named;
         fault = tt;
         fit = inv.fit;

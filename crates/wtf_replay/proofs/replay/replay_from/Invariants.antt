@@ -6,8 +6,8 @@ use Rattle.wtf_model.specs.declared.op.Op.{Op}
 use Rattle.wtf_meta.specs.Lists.{ListFact}
 use Rattle.wtf_meta.specs.Maps.{AllFit, metadata_at}
 use Rattle.wtf_region.specs.Devs.{GoesOn, stores, between}
+use Rattle.wtf_region.specs.Reads.{Recalls}
 use Rattle.wtf_region.specs.Showing.{OnlyRead}
-use Rattle.wtf_steps.specs.Recalling.{Recalls}
 use Rattle.wtf_replay.specs.Views.{in_hand, replaying}
 use Rattle.wtf_replay.specs.Sounds.{LogStands, TellsMap, IsAwayTxn}
 use Rattle.wtf_replay.specs.Insides.{IsHandInside, IsLogInside, NamesAgain}
@@ -28,7 +28,8 @@ invariant-loop-k g l = record {
   reads : OnlyRead g.S.SliceStore.kind (between l.initial.dev l.dev);
   dev : GoesOn g.S.SliceStore.kind l.initial.dev l.dev [];
   redone : (lists : List ListFact) × AreRedone (scope g.S.SliceStore.kind l.initial.dev l.dev) l.kv
-      (replaying l.tx.0 l.initial.at l.initial.session l.log l.from) (l.k - l.from) lists (in_hand l.at l.session) × Recalls l.initial.dev l.dev lists;
+      (replaying l.tx.0 l.initial.at l.initial.session l.log l.from) (l.k - l.from) lists (in_hand l.at l.session)
+      × Recalls g.S.SliceStore.kind l.initial.dev l.dev lists;
   sound : (ops : List (Op (List ℕ))) (ranges : List (ℕ × Range)) → TellsMap g.S.SliceStore.kind l.initial.dev ranges (metadata_at l.kv l.initial.at.base)
       → IsAwayTxn g.S.SliceStore.kind l.initial.dev ranges l.kv (replaying l.tx.0 l.initial.at l.initial.session l.log l.from)
       → LogStands l.initial.dev.settings.region l.kv (byte_at g.S.SliceStore.kind (stores l.initial.dev))

@@ -31,14 +31,14 @@ use Rattle.wtf_replay.specs.Built.{call_data}
 use Rattle.wtf_replay.specs.Fits.{IsFit, IsLog}
 use Rattle.wtf_replay.specs.Insides.{IsInsideTxn, IsLogInside, LogBytes, NamesTxn}
 use Rattle.wtf_replay.specs.Sounds.{caller_at, tells_slice, IsToldStep}
-use Rattle.wtf_replay.specs.Works.{IsCaller, work}
+use Rattle.wtf_replay.specs.Works.{IsCaller, work, sight_of}
 use Rattle.wtf_replay.proofs.Again.{tells_hand}
 use Rattle.wtf_replay.proofs.Insiding.{log_later, inside_later, slice_from}
 use Rattle.wtf_replay.proofs.Keeping.{log_called}
 use Rattle.wtf_replay.proofs.Later.{tells_on}
 use Rattle.wtf_replay.proofs.Naming.{named_by}
 use Rattle.wtf_replay.proofs.RwLaws.{own_known, own_len_of, own_inside_of, own_told_of}
-use Rattle.wtf_replay.proofs.SliceLaws.{call_short, memory_due}
+use Rattle.wtf_replay.proofs.SliceLaws.{peek_left, call_short, memory_due}
 use Rattle.wtf_replay.proofs.Sounding.{sound_called, sound_later}
 use Rattle.wtf_replay.proofs.Stepping.{told_of, named_of, fit_of, inside_by}
 use Rattle.wtf_replay.proofs.Turning.{if_none, unmade_none, put_back}
@@ -126,6 +126,7 @@ returns g c =
               lists = first.acted.lists;
               known = first.acted.known;
               recalls = first.acted.recalls;
+              reads = first.acted.reads;
               acts = first.acted.acts;
               holds = first.acted.holds;
               stored = first.own;
@@ -251,7 +252,8 @@ returns-in-Err-note g c =
       inside = record { hand = record { base = later.hand.base; changes = later.hand.changes; slices = hand.slices }; log = later.log };
       err = λ other. absurd (other short);
       err_hand = refl;
-      fault = call_short kind dev into (seen kv x.at) x.session o why short;
+      fault = call_short kind dev into (seen kv x.at) x.session o why
+          (peek_left kind dev into (sight_of w inode first.acted.lists) o c.in-Ok.done.answer first.acted.reads first.acted.recalls) short;
       due = memory_due dev.settings (seen kv x.at) x.session o why short;
       leaves = made.leaves;
       reads = made.reads;

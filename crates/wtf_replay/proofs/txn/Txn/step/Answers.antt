@@ -1,5 +1,5 @@
 use Rattle.std.proofs.Common.{◌≡◌, Bool, Option, None, Some, Ok, refl, sym, ap, ◌∙◌, subst}
-use Rattle.std.specs.Prelude.{IfSome, Result, if◌then◌else◌}
+use Rattle.std.specs.Prelude.{IfSome, Result, if◌then◌else◌, slice_get}
 use Rattle.wtf_base.specs.declared.fault.Fault.{Fault}
 use Rattle.wtf_model.specs.declared.answer.Answer.{Answer}
 use Rattle.wtf_model.specs.declared.answer.Answer.TheVariants as answer
@@ -8,8 +8,10 @@ use Rattle.wtf_model.specs.declared.answer.Word.TheVariants.{Live}
 use Rattle.wtf_region.specs.Devs.{stores, is_down_in}
 use Rattle.wtf_region.proofs.ShowLaws.{reads_nothing}
 use Rattle.wtf_region.proofs.Spans.{goes_nowhere}
+use Rattle.wtf_replay.specs.Causes.{IsStillOp}
 use Rattle.wtf_replay.specs.Refusals.{step_refusal}
 use Rattle.wtf_replay.proofs.Naming.{named_none}
+use Rattle.wtf_replay.proofs.Turning.{if_each}
 use Rattle.wtf_replay.proofs.txn.Txn.step.Goals as goal
 
 -- no replay runs
@@ -33,6 +35,7 @@ returns-then-is_live g c =
         err = tt;
         fault = tt;
         due = tt;
+        still = if_each (slice_get x.log.ops x.replayed) (λ o. IsStillOp o → dev ≡ dev) (λ o quiet. refl);
         reads = reads_nothing kind (is_down_in dev) (stores dev);
         dev = goes_nowhere g.met.S.SliceStore.laws dev c.requires.sound;
       };

@@ -1,4 +1,4 @@
-use Rattle.std.proofs.Common.{◌≡◌, ◌≢◌, ◌<◌, ◌+◌, length, true, false, None, Some, slice_get, refl, sym, ◌∙◌, subst, inr, arith}
+use Rattle.std.proofs.Common.{◌≡◌, ◌≢◌, ◌<◌, ◌+◌, [], length, true, false, None, Some, slice_get, refl, sym, ◌∙◌, subst, inr, arith}
 use Rattle.std.specs.Prelude.{IsTrue, Result, Ok, Err}
 use Rattle.std.specs.Box.{with_value}
 use Rattle.wtf_base.specs.declared.fault.Fault.{Fault}
@@ -18,7 +18,9 @@ use Rattle.wtf_replay.proofs.Faulting.{step_fault}
 use Rattle.wtf_replay.proofs.Again.{again_same, again_other}
 use Rattle.wtf_replay.proofs.Insiding.{log_later, inside_later}
 use Rattle.wtf_replay.proofs.Naming.{named_by}
-use Rattle.wtf_replay.proofs.Stepping.{next_named, next_fit, next_told, next_due, next_redoes, again_inside}
+use Rattle.wtf_replay.specs.Effects.{scope}
+use Rattle.wtf_replay.proofs.EffectLaws.{stops_at}
+use Rattle.wtf_replay.proofs.Stepping.{next_named, next_fit, next_told, next_due, next_makes, next_redoes, again_inside}
 use Rattle.wtf_replay.proofs.Turning.{if_none, step_none, put_back}
 use Rattle.wtf_replay.proofs.txn.Txn.step_next.Goals as goal
 
@@ -26,7 +28,7 @@ pub make_again-requires-clause-log : goal.make_again-requires-clause-log
 make_again-requires-clause-log g c = subst (λ (y : TxnView). IsLog y.log) (sym c.self.view_is) c.requires.fit.log
 
 pub returns-then-same : goal.returns-then-same
-unfolding next_redoes
+unfolding next_redoes next_makes
 returns-then-same g c =
     let kind = g.S.SliceStore.kind in
     let laws = g.met.S.SliceStore.laws in
@@ -75,12 +77,14 @@ returns-then-same g c =
             err = tt;
             fault = tt;
             due = tt;
+            still = made.still;
             reads = made.reads;
             dev = made.dev;
           });
     }
 
 pub returns : goal.returns
+unfolding next_makes
 returns g c =
     let kind = g.S.SliceStore.kind in
     let laws = g.met.S.SliceStore.laws in
@@ -110,7 +114,8 @@ returns g c =
           subst (λ (y : TxnView). StepOf (turn kind dev into kv kv y new) r) c.self.view_is (record {
             refused = if_none (step_refusal x) _ (step_none x left);
             stepped = λ going. record { index = refl; over = record { tx = refl; base = made.grows.base; log = refl; ended = refl } };
-            acts = λ going. tt;
+            acts = λ going. stops_at (scope kind dev into) kv x 0 x.replayed [] (hand_of x) (hand_of new) a (omega arith) (refl, refl)
+                (next_makes w x.tx x.log x.replayed a made.next x refl refl) differs made.next.again.acted.recalls;
             meaning = λ going ops start. again_other laws made.dev start.0 kv x ops start.3 start.1 start.2 left a
                 (λ k o at. next_due w x.tx x.log x.replayed a made.next start.0 k o at) differs;
             named = names;
@@ -127,6 +132,7 @@ returns g c =
             err = tt;
             fault = tt;
             due = tt;
+            still = made.still;
             reads = made.reads;
             dev = made.dev;
           });
@@ -163,6 +169,7 @@ returns-in-Err-make_again g c =
       err = refl;
       fault = inr made.fault;
       due = λ ops sound. step_fault kind dev into kv before x ops why sound made.fault;
+      still = made.still;
       reads = made.reads;
       dev = made.dev;
     } in
