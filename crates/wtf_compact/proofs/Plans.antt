@@ -1,5 +1,5 @@
 -- What is put in a region's place.
-use Rattle.std.proofs.Common.{◌≡◌, ◌⊎◌, ◌*◌, ◌++◌, Bool, true, false, List, [], ◌∷◌, Option, None, Some, refl, sym, ap, ◌∙◌, subst, append-nil}
+use Rattle.std.proofs.Common.{◌≡◌, ◌⊎◌, ◌*◌, ◌++◌, Bool, true, false, List, [], ◌∷◌, length, Option, None, Some, refl, sym, ap, ◌∙◌, subst, append-nil}
 use Rattle.std.proofs.Common.{inl, inr}
 use Rattle.std.specs.List.{All}
 use Rattle.std.proofs.lemmas.List.Elements.{All-nil, All-cons, All-append, All-weaker}
@@ -17,7 +17,7 @@ use Rattle.wtf_overlay.specs.declared.part.Entry.{Entry}
 use Rattle.wtf_overlay.proofs.Clipping.{clip_list_within}
 use Rattle.wtf_model.specs.declared.op.JobKind.{JobKind}
 use Rattle.wtf_model.specs.declared.op.JobKind.TheVariants as job
-use Rattle.wtf_replica.specs.Copies.{IsStored}
+use Rattle.wtf_replica.specs.Copies.{IsStored, GrowsOnce}
 use Rattle.wtf_replica.specs.Faults.{IsWriteFault}
 use Rattle.wtf_values.specs.declared.region.RegionValue.{RegionValue}
 use Rattle.wtf_values.specs.declared.region.Spill.{Spill}
@@ -26,11 +26,11 @@ use Rattle.wtf_meta.specs.Contents.{lists_in}
 use Rattle.wtf_meta.specs.Bytes.{EntryBytes, BaseBytes, RegionBytes, any_slice}
 use Rattle.wtf_meta.proofs.ListFacts.{TellLists-parts, ListsBytes-all}
 use Rattle.wtf_meta.proofs.Weaker.{maybe_stays}
-use Rattle.wtf_replica.specs.Outs.{OtherFilesStay}
 use Rattle.wtf_region.specs.declared.dev.Dev.{Dev}
 use Rattle.wtf_region.specs.Devs.{IsSoundDev, GoesOn, stores, remembered, told_in, inside_of, between, place_in}
 use Rattle.wtf_region.specs.Showing.{OnlyRead}
 use Rattle.wtf_region.proofs.ListReads.{entries_later, facts_later, places_later}
+use Rattle.wtf_region.proofs.Recalls.{recalls_same, recalls_later}
 use Rattle.wtf_region.proofs.ShowLaws.{reads_nothing}
 use Rattle.wtf_compact.specs.declared.target.Target.{Target}
 use Rattle.wtf_compact.specs.Planned.{spills, IsShortList, IsPlanned, IsPlanFault}
@@ -48,7 +48,7 @@ neither b is not = let both : true ≡ false = sym is ∙ not in absurd (cc)
 pub planned_none : {S : Type 0} (kind : StoreKind S) (dev : Dev S) (t : Target) (now : Option RegionValue) → now ≡ None → IsPlanned kind dev dev t now None
 planned_none kind dev t now none = subst (λ (o : Option RegionValue). IsPlanned kind dev dev t o None) (sym none) (record {
   under = [];
-  recalls = refl;
+  recalls = recalls_same kind dev dev refl;
   stored = [];
   same = record { end = refl; origins = λ lists tell y. refl };
   there = refl;
@@ -129,7 +129,7 @@ module _ {S : Type 0} {kind : StoreKind S} (laws : KindLaws kind) {old mid new :
       let own : ListFact = record { slice = s; list = es } in
       record {
         under = h.under;
-        recalls = kept ∙ h.recalls;
+        recalls = recalls_later laws goes next facts h.recalls kept;
         stored = own ∷ [];
         same = record {
           end = end;
@@ -172,12 +172,22 @@ module _ {S : Type 0} {kind : StoreKind S} (laws : KindLaws kind) {old mid new :
       }
 
 -- too few servers took the list
-pub fault_spilled : {S : Type 0} (kind : StoreKind S) (old mid new : Dev S) (t : Target) (v : RegionValue) (why : Fault) → GoesOn kind old mid []
-    → OnlyRead kind (between old mid) → spills t.kind v.end ≡ true
-    → OtherFilesStay kind (stores mid) (stores new) (place_in mid t.inode (t.region * mid.settings.region)).file
+pub fault_spilled : {S : Type 0} (kind : StoreKind S) (old mid new : Dev S) (t : Target) (v : RegionValue) (es : List Entry) (why : Fault)
+    → GoesOn kind old mid [] → OnlyRead kind (between old mid) → IsShortList kind old mid v es → spills t.kind v.end ≡ true
+    → GrowsOnce kind (between mid new) (place_in mid t.inode (t.region * mid.settings.region)) (length (encoded es)) → remembered new ≡ remembered mid
     → (why ≡ fault.Memory) ⊎ IsWriteFault kind (between mid new) mid.settings why
     → IsPlanFault kind old new t (Some v) why
-fault_spilled kind old mid new t v why goes reads is others h = elim h [
+fault_spilled kind old mid new t v es why goes reads list is grows left h = elim h [
   | inl short ↦ inl short
-  | inr out ↦ inr (inr (record { spilled = is; mid = mid; goes = goes; reads = reads; out = out; others = others }))
+  | inr out ↦ inr (inr (record {
+    spilled = is;
+    mid = mid;
+    goes = goes;
+    reads = reads;
+    under = list.under;
+    recalls = list.recalls;
+    out = out;
+    grows = record { spilled = is; list = es; compact = list.compact; grows = grows };
+    left = left;
+  }))
 ]

@@ -1,5 +1,5 @@
 -- What a job puts in a region's place, what was read and stored for it, and why it was not planned.
-use Rattle.std.specs.Prelude.{◌≡◌, ◌⊎◌, ℕ, ◌*◌, ◌++◌, nat_lt, Bool, true, false, List, [], ◌∷◌, Option, None, Some, is_some, ⊤}
+use Rattle.std.specs.Prelude.{◌≡◌, ◌⊎◌, ℕ, ◌*◌, ◌++◌, nat_lt, Bool, true, false, List, [], ◌∷◌, length, Option, None, Some, is_some, ⊤}
 use Rattle.std.specs.List.{All}
 use Rattle.wtf_base.specs.declared.fault.Fault.{Fault}
 use Rattle.wtf_base.specs.declared.fault.Fault.TheVariants as fault
@@ -13,19 +13,19 @@ use Rattle.wtf_overlay.specs.Spilled.{encoded}
 use Rattle.wtf_overlay.specs.declared.part.Entry.{Entry}
 use Rattle.wtf_model.specs.declared.op.JobKind.{JobKind}
 use Rattle.wtf_model.specs.declared.op.JobKind.TheVariants as job
-use Rattle.wtf_replica.specs.Copies.{IsStored}
+use Rattle.wtf_replica.specs.Copies.{IsStored, GrowsOnce}
 use Rattle.wtf_replica.specs.Faults.{IsWriteFault}
 use Rattle.wtf_values.specs.declared.region.RegionValue.{RegionValue}
 use Rattle.wtf_meta.specs.Lists.{Lists, ListFact, TellLists, base_facts, region_facts, list_of}
 use Rattle.wtf_meta.specs.Files.{end_of}
 use Rattle.wtf_meta.specs.Contents.{Told, SamePlaces, SameRegion, is_told, is_listed, lists_in}
 use Rattle.wtf_meta.specs.Bytes.{EntryBytes, ListSlices, ListsBytes, MaybeBytes, RegionBytes, any_slice}
-use Rattle.wtf_replica.specs.Outs.{IsLeftDown, OtherFilesStay, SameLengths, SameSyncs}
+use Rattle.wtf_replica.specs.Outs.{IsLeftDown, SameLengths, SameSyncs}
 use Rattle.wtf_region.specs.declared.dev.Dev.{Dev}
 use Rattle.wtf_region.specs.Apart.{are_apart}
-use Rattle.wtf_region.specs.Cached.{RemembersOnly, recalled}
+use Rattle.wtf_region.specs.Cached.{RemembersOnly}
 use Rattle.wtf_region.specs.Devs.{GoesOn, stores, remembered, told_in, between, place_in, RemembersTrue}
-use Rattle.wtf_region.specs.Reads.{IsOfBase, TellsFacts, AreInsideLists, IsRegionFault}
+use Rattle.wtf_region.specs.Reads.{Recalls, IsOfBase, TellsFacts, AreInsideLists, LeavesRegion}
 use Rattle.wtf_region.specs.Showing.{OnlyRead}
 use Rattle.wtf_compact.specs.declared.target.Target.{Target}
 
@@ -39,7 +39,7 @@ spills job.Spill end = nat_lt 0 end
 -- nowhere, and names no other bytes than the region and the list of its base.
 pub record IsShortList {S : Type 0} (kind : StoreKind S) (old new : Dev S) (v : RegionValue) (es : List Entry) : Type 0 where
   pub under : List Entry
-  pub recalls : remembered new ≡ recalled (base_facts v.base under) (remembered old)
+  pub recalls : Recalls kind old new (base_facts v.base under)
   pub compact : IsCompact es
   pub origins : (lists : Lists) → TellLists lists (base_facts v.base under) → (y : ℕ) → origin es y ≡ origin (list_of lists v) y
   pub within : Within v.end es
@@ -90,7 +90,7 @@ pub record NamesPlanned (now : Option RegionValue) (read stored : List ListFact)
 -- was read of its base, which is remembered, and with what was stored. A region that is missing stays so.
 pub record IsPlanned {S : Type 0} (kind : StoreKind S) (old new : Dev S) (t : Target) (now value : Option RegionValue) : Type 0 where
   pub under : List Entry
-  pub recalls : remembered new ≡ recalled (region_facts now under) (remembered old)
+  pub recalls : Recalls kind old new (region_facts now under)
   pub stored : List ListFact
   pub same : SamePlaces (region_facts now under ++ stored) now value
   pub there : is_some value ≡ is_some now
@@ -112,27 +112,37 @@ IsOfRegion (Some v) s = IsOfBase v.base s
 abbrev pub RemembersItsBase : {S : Type 0} → (old new : Dev S) → Option RegionValue → Type 0
 RemembersItsBase old new now = RemembersOnly (IsOfRegion now) (remembered old) (remembered new)
 
+-- The stores grew by a list that a spill of a region with bytes was to store: no file but that of the region's place, and on each of the
+-- place's servers once at most, by the bytes of the list.
+pub record GrowsByList {S : Type 0} (kind : StoreKind S) (old new : Dev S) (t : Target) (now : Option RegionValue) : Type 0 where
+  pub spilled : spills t.kind (end_of now) ≡ true
+  pub list : List Entry
+  pub compact : IsCompact list
+  pub grows : GrowsOnce kind (between old new) (place_in old t.inode (t.region * old.settings.region)) (length (encoded list))
+
 -- What a plan leaves of the stores, whatever comes of it: none of a server that is down is touched, none is synced, and no file grows, but
--- where a list is to be stored that to which it goes.
+-- by a list that is to be stored.
 pub record SparesStores {S : Type 0} (kind : StoreKind S) (old new : Dev S) (t : Target) (now : Option RegionValue) : Type 0 where
   pub down : IsLeftDown (between old new)
   pub syncs : SameSyncs kind (stores old) (stores new)
-  pub lengths : spills t.kind (end_of now) ≡ false → SameLengths kind (stores old) (stores new)
-  pub others : OtherFilesStay kind (stores old) (stores new) (place_in old t.inode (t.region * old.settings.region)).file
+  pub grows : SameLengths kind (stores old) (stores new) ⊎ GrowsByList kind old new t now
 
--- the list of the region was not read, and no store was written
+-- the list of the region was not read, which leaves the lists that are remembered, and no store was written
 pub record PlanLacksBase {S : Type 0} (kind : StoreKind S) (old new : Dev S) (now : Option RegionValue) (why : Fault) : Type 0 where
-  pub cause : IsRegionFault kind old new now why
+  pub cause : LeavesRegion kind old new now why
   pub reads : OnlyRead kind (between old new)
 
--- The list was read, and too few servers took its bytes: only the file to which these were to go may have grown.
+-- The list was read and is remembered, and too few servers took its bytes: only the file to which these were to go may have grown by them.
 pub record LacksServers {S : Type 0} (kind : StoreKind S) (old new : Dev S) (t : Target) (now : Option RegionValue) (why : Fault) : Type 0 where
   pub spilled : spills t.kind (end_of now) ≡ true
   pub mid : Dev S
   pub goes : GoesOn kind old mid []
   pub reads : OnlyRead kind (between old mid)
+  pub under : List Entry
+  pub recalls : Recalls kind old mid (region_facts now under)
   pub out : IsWriteFault kind (between mid new) mid.settings why
-  pub others : OtherFilesStay kind (stores mid) (stores new) (place_in mid t.inode (t.region * mid.settings.region)).file
+  pub grows : GrowsByList kind mid new t now
+  pub left : remembered new ≡ remembered mid
 
 -- why a job was not planned; memory may be short at any time
 abbrev pub IsPlanFault : {S : Type 0} → StoreKind S → (old new : Dev S) → Target → Option RegionValue → Fault → Type 0

@@ -1,19 +1,21 @@
 //! Short lists of regions, and those that are stored.
 
-ghost use Rattle.std.specs.Prelude.{◌≡◌, ◌⊎◌, ◌*◌, ◌<◌, [], Some, IfOk, IfErr};
+ghost use Rattle.std.specs.Prelude.{◌≡◌, ◌⊎◌, ◌*◌, ◌<◌, [], length, Some, IfOk, IfErr};
 ghost use Rattle.wtf_dev.specs.Sums.{TellsAll};
 ghost use Rattle.wtf_overlay.specs.Clips.{Within};
 ghost use Rattle.wtf_overlay.specs.Compact.{IsCompact};
 ghost use Rattle.wtf_overlay.specs.Spilled.{encoded};
 ghost use Rattle.wtf_model.specs.declared.limits.TheConstants.{MAX_REGIONS};
-ghost use Rattle.wtf_replica.specs.Copies.{IsStored};
+ghost use Rattle.wtf_replica.specs.Copies.{IsStored, GrowsOnce};
 ghost use Rattle.wtf_replica.specs.Faults.{IsWriteFault};
-ghost use Rattle.wtf_replica.specs.Outs.{IsLeftDown, OtherFilesStay, SameSyncs};
+ghost use Rattle.wtf_replica.specs.Outs.{IsLeftDown, SameSyncs};
+ghost use Rattle.wtf_ring.specs.Orders.{IsOrder};
 ghost use Rattle.wtf_meta.specs.Bytes.{BaseBytes, SliceBytes, any_slice};
 ghost use Rattle.wtf_meta.specs.Contents.{lists_in};
 ghost use Rattle.wtf_region.specs.Cached.{RemembersOnly};
 ghost use Rattle.wtf_region.specs.Devs.{IsSoundDev, GoesOn, stores, remembered, told_in, inside_of, between, place_in};
-ghost use Rattle.wtf_region.specs.Reads.{IsOfBase, IsBaseFault};
+ghost use Rattle.wtf_region.specs.Bases.{base_slices};
+ghost use Rattle.wtf_region.specs.Reads.{IsOfBase, IsBaseFault, LeavesLists};
 ghost use Rattle.wtf_region.specs.Showing.{OnlyRead};
 ghost use Rattle.wtf_compact.specs.Planned.{IsShortList};
 
@@ -36,6 +38,7 @@ pub(crate) fn short_list<S: SliceStore>(
     requires inside { BaseBytes (inside_of S.kind dev.old) any_slice value.now.base }
     ensures list { IfOk result (IsShortList S.kind dev.old dev.new value.now) }
     ensures fault { IfErr result (IsBaseFault S.kind dev.old dev.new value.now.base) }
+    ensures left { IfErr result (LeavesLists S.kind (base_slices value.now.base) dev.old dev.new) }
     ensures only { RemembersOnly (IsOfBase value.now.base) (remembered dev.old) (remembered dev.new) }
     ensures reads { OnlyRead S.kind (between dev.old dev.new) }
     ensures dev { GoesOn S.kind dev.old dev.new [] }
@@ -71,8 +74,11 @@ pub(crate) fn store_list<S: SliceStore>(
     ensures fault { IfErr result (λ why. (why ≡ Fault.Memory) ⊎
         IsWriteFault S.kind (between dev.old dev.new) dev.old.settings why) }
     ensures down { IsLeftDown (between dev.old dev.new) }
-    ensures others { OtherFilesStay S.kind (stores dev.old) (stores dev.new)
-        (place_in dev.old target.inode (target.region * dev.old.settings.region)).file }
+    ensures grows { GrowsOnce S.kind (between dev.old dev.new)
+        (place_in dev.old target.inode (target.region * dev.old.settings.region))
+        (length (encoded list.now)) }
+    ensures order { (stores dev.new ≡ stores dev.old) ⊎ IsOrder dev.old.settings.servers
+        (place_in dev.old target.inode (target.region * dev.old.settings.region)).servers }
     ensures syncs { SameSyncs S.kind (stores dev.old) (stores dev.new) }
     ensures lists { remembered dev.new ≡ remembered dev.old }
     ensures dev { GoesOn S.kind dev.old dev.new [] }

@@ -22,9 +22,9 @@ returns-then-not-spills-clause-inside g c =
 
 pub returns-in-Err-store_list-clause-fault : goal.returns-in-Err-store_list-clause-fault
 returns-in-Err-store_list-clause-fault g c =
-    fault_spilled g.S.SliceStore.kind c.args.dev.now c.short_list.new.dev c.store_list.new.dev c.args.target c.args.value.now c.in-Err-store_list.why
-    c.short_list.ensures.dev c.short_list.ensures.reads (sym c.spills.ensures ∙ c.if-not-spills.false) c.store_list.ensures.others
-    c.in-Err-store_list.ensures.fault
+    fault_spilled g.S.SliceStore.kind c.args.dev.now c.short_list.new.dev c.store_list.new.dev c.args.target c.args.value.now c.in-Ok.list
+    c.in-Err-store_list.why c.short_list.ensures.dev c.short_list.ensures.reads c.in-Ok.ensures.list (sym c.spills.ensures ∙ c.if-not-spills.false)
+    c.store_list.ensures.grows c.store_list.ensures.lists c.in-Err-store_list.ensures.fault
 
 pub returns-in-Err-store_list-clause-dev : goal.returns-in-Err-store_list-clause-dev
 returns-in-Err-store_list-clause-dev g c = goes_on g.met.S.SliceStore.laws c.short_list.ensures.dev c.store_list.ensures.dev
@@ -50,28 +50,29 @@ returns-clause-dev g c = goes_on g.met.S.SliceStore.laws c.short_list.ensures.de
 
 pub returns-in-Err-clause-spares : goal.returns-in-Err-clause-spares
 returns-in-Err-clause-spares g c =
-    spares_read g.S.SliceStore.kind c.args.dev.now c.short_list.new.dev c.args.target (Some c.args.value.now) c.short_list.ensures.dev
-    c.short_list.ensures.reads
+    spares_read g.S.SliceStore.kind c.args.dev.now c.short_list.new.dev c.args.target (Some c.args.value.now) c.short_list.ensures.reads
 
 pub returns-then-not-spills-clause-spares : goal.returns-then-not-spills-clause-spares
 returns-then-not-spills-clause-spares g c =
-    spares_read g.S.SliceStore.kind c.args.dev.now c.short_list.new.dev c.args.target (Some c.args.value.now) c.short_list.ensures.dev
-    c.short_list.ensures.reads
+    spares_read g.S.SliceStore.kind c.args.dev.now c.short_list.new.dev c.args.target (Some c.args.value.now) c.short_list.ensures.reads
 
 pub returns-in-Err-store_list-clause-spares : goal.returns-in-Err-store_list-clause-spares
 returns-in-Err-store_list-clause-spares g c =
-    spares_stored g.S.SliceStore.kind c.args.dev.now c.short_list.new.dev c.store_list.new.dev c.args.target (Some c.args.value.now) c.short_list.ensures.dev
-    c.short_list.ensures.reads (sym c.spills.ensures ∙ c.if-not-spills.false) c.store_list.ensures.down c.store_list.ensures.others c.store_list.ensures.syncs
+    spares_stored g.met.S.SliceStore.laws c.short_list.ensures.dev c.store_list.ensures.dev c.short_list.ensures.reads c.args.target (Some c.args.value.now)
+    c.in-Ok.list (sym c.spills.ensures ∙ c.if-not-spills.false) c.in-Ok.ensures.list.compact c.store_list.ensures.down c.store_list.ensures.grows
+    c.store_list.ensures.order c.store_list.ensures.syncs
 
 pub returns-in-Ok-of_slice-clause-spares : goal.returns-in-Ok-of_slice-clause-spares
 returns-in-Ok-of_slice-clause-spares g c =
-    spares_stored g.S.SliceStore.kind c.args.dev.now c.short_list.new.dev c.store_list.new.dev c.args.target (Some c.args.value.now) c.short_list.ensures.dev
-    c.short_list.ensures.reads (sym c.spills.ensures ∙ c.if-not-spills.false) c.store_list.ensures.down c.store_list.ensures.others c.store_list.ensures.syncs
+    spares_stored g.met.S.SliceStore.laws c.short_list.ensures.dev c.store_list.ensures.dev c.short_list.ensures.reads c.args.target (Some c.args.value.now)
+    c.in-Ok.list (sym c.spills.ensures ∙ c.if-not-spills.false) c.in-Ok.ensures.list.compact c.store_list.ensures.down c.store_list.ensures.grows
+    c.store_list.ensures.order c.store_list.ensures.syncs
 
 pub returns-clause-spares : goal.returns-clause-spares
 returns-clause-spares g c =
-    spares_stored g.S.SliceStore.kind c.args.dev.now c.short_list.new.dev c.store_list.new.dev c.args.target (Some c.args.value.now) c.short_list.ensures.dev
-    c.short_list.ensures.reads (sym c.spills.ensures ∙ c.if-not-spills.false) c.store_list.ensures.down c.store_list.ensures.others c.store_list.ensures.syncs
+    spares_stored g.met.S.SliceStore.laws c.short_list.ensures.dev c.store_list.ensures.dev c.short_list.ensures.reads c.args.target (Some c.args.value.now)
+    c.in-Ok.list (sym c.spills.ensures ∙ c.if-not-spills.false) c.in-Ok.ensures.list.compact c.store_list.ensures.down c.store_list.ensures.grows
+    c.store_list.ensures.order c.store_list.ensures.syncs
 
 pub returns-in-Ok-of_slice-clause-only : goal.returns-in-Ok-of_slice-clause-only
 returns-in-Ok-of_slice-clause-only g c =
