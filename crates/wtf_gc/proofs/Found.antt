@@ -267,6 +267,7 @@ module _ (kv : Store Key Value) (parts : Parts) (found : List Extent) (bases : L
         there = there;
         cause = subst (λ (o : Option Spill). IsBaseFault kind lacks.mid new o why) (sym base)
             (subst (λ (x : Slice). IsSliceFault kind lacks.mid new x why) same lacks.cause);
+        left = lacks.left;
       }))
 
   pub parts_read : {S : Type 0} (kind : StoreKind S) (old new : Dev S) (sorted : List Base) → IsPermutation bases sorted → (after : List Extent)

@@ -1,5 +1,5 @@
 -- Extents that are freed one after another.
-use Rattle.std.proofs.Common.{◌≡◌, ℕ, ◌+◌, ◌<◌, List, [], ◌∷◌, ◌++◌, take, get_or, length, Option, Some, sym, ap, ◌∙◌, arith}
+use Rattle.std.proofs.Common.{◌≡◌, ◌≢◌, ℕ, ◌+◌, ◌<◌, ◌≤◌, List, [], ◌∷◌, ◌++◌, take, get_or, length, Option, Some, sym, ap, ◌∙◌, arith}
 use Rattle.std.specs.Prelude.{slice_get, OnErr}
 use Rattle.std.specs.declared.result.Result.{Result}
 use Rattle.std.specs.declared.result.Result.TheVariants.{Ok, Err}
@@ -8,7 +8,7 @@ use Rattle.std.proofs.lemmas.Option.{slice_get-get_or, slice_get-map}
 use Rattle.std.proofs.lemmas.List.{take-map, take_more, map-append}
 use Rattle.wtf_dev.specs.Store.{Range, StoreKind}
 use Rattle.wtf_replica.specs.Inside.{size_in}
-use Rattle.wtf_replica.specs.Outs.{SameLengths}
+use Rattle.wtf_replica.specs.Outs.{SameFrom, SameLengths}
 use Rattle.wtf_replica.proofs.InsideLaws.{size_in-at}
 use Rattle.wtf_gc.specs.declared.extent.Extent.{Extent}
 use Rattle.wtf_gc.specs.Frees.{LiesOn, range_of, ranges_of}
@@ -22,14 +22,20 @@ pub some_store : {S : Type 0} (xs : List S) (k : ℕ) → k < length xs → S
 some_store [] k below = absurd (omega (arith, below))
 some_store (x ∷ xs) k below = x
 
--- a range lies in the stores still
-pub lies_later : {S : Type 0} (kind : StoreKind S) (old new : List S) (r : ℕ × Range) → length new ≡ length old → SameLengths kind old new
-    → LiesOn (size_in kind old) (length old) r → LiesOn (size_in kind new) (length new) r
-lies_later kind old new r long same h =
-    let below : r.0 < length old = h.0 in
-    let stays = size_stays kind old new r.0 r.1.file (some_store old r.0 below) long same below in
+-- a range lies in the stores of so many servers still
+pub lies_later : {S : Type 0} (kind : StoreKind S) (old new : List S) (servers : ℕ) (r : ℕ × Range) → servers ≤ length old → length new ≡ length old
+    → SameLengths kind old new → LiesOn (size_in kind old) servers r → LiesOn (size_in kind new) servers r
+lies_later kind old new servers r there long same h =
+    let below = h.0 in
+    let known : r.0 < length old = omega (arith, below, there) in
+    let stays = size_stays kind old new r.0 r.1.file (some_store old r.0 known) long same known in
     let le = h.2 in
-    (omega (arith, below, long), h.1, omega (arith, le, stays))
+    (below, h.1, omega (arith, le, stays))
+
+-- what leaves all servers but one of so many leaves those from there on
+pub others_from : {S : Type 0} (old new : List S) (k servers : ℕ) → k < servers → ((j : ℕ) (d : S) → j ≢ k → get_or new j d ≡ get_or old j d)
+    → SameFrom servers old new
+others_from old new k servers below elsewhere = λ j d far. elsewhere j d (λ same. omega (arith, below, far, same))
 
 -- the range of the next extent
 pub next_range : (es : List Extent) (i : ℕ) (d : Extent) → i < length es → slice_get (ranges_of es) i ≡ Some (range_of (get_or es i d))

@@ -15,10 +15,10 @@ use Rattle.wtf_meta.specs.Bytes.{SliceBytes, EntryBytes, ListSlices, any_slice}
 use Rattle.wtf_region.specs.declared.dev.Dev.{Dev}
 use Rattle.wtf_meta.proofs.ListFacts.{TellLists-append, ListSlices-parts}
 use Rattle.wtf_region.specs.Apart.{are_apart}
-use Rattle.wtf_region.specs.Cached.{list_fact, recalled}
-use Rattle.wtf_region.specs.Devs.{GoesOn, inside_of, told_in, remembered}
+use Rattle.wtf_region.specs.Cached.{list_fact}
+use Rattle.wtf_region.specs.Devs.{GoesOn, inside_of, told_in}
 use Rattle.wtf_region.specs.Reads.{IsSliceRead}
-use Rattle.wtf_region.proofs.Recalling.{recalled_more}
+use Rattle.wtf_region.proofs.Recalls.{recalls_same, recalls_on}
 use Rattle.wtf_region.proofs.ListReads.{entries_later, places_later, facts_on}
 use Rattle.wtf_gc.specs.declared.extent.Extent.{Extent}
 use Rattle.wtf_gc.specs.Extents.{extents_cover}
@@ -58,7 +58,7 @@ module _ {S : Type 0} {kind : StoreKind S} (laws : KindLaws kind) where
   read_none dev found = record {
     facts = [];
     asked = [];
-    recalls = refl;
+    recalls = recalls_same kind dev dev refl;
     among = All-nil (λ (f : ListFact). Contains [] f.slice);
     each = refl;
     adds = λ p. sym (or_none (extents_cover found p));
@@ -92,7 +92,7 @@ module _ {S : Type 0} {kind : StoreKind S} (laws : KindLaws kind) where
   read_on {old = old} {mid = mid} {new = new} g h slices more before between after first next = record {
     facts = first.facts ++ next.facts;
     asked = first.asked ++ next.asked;
-    recalls = next.recalls ∙ ap (recalled next.asked) first.recalls ∙ sym (recalled_more first.asked next.asked (remembered old));
+    recalls = recalls_on laws g h first.asked next.asked first.recalls next.recalls;
     among = All-append (λ (f : ListFact). Contains (slices ++ more) f.slice) first.asked next.asked
         (All-weaker (λ (f : ListFact). Contains slices f.slice) (λ (f : ListFact). Contains (slices ++ more) f.slice)
         (λ f h. Contains-append_left slices more f.slice h) first.asked first.among)

@@ -1,6 +1,6 @@
 //! Scans of what is in use, and the collection of what is not.
 
-ghost use Rattle.std.specs.Prelude.{◌≡◌, ◌≤◌, ◌<◌, ◌-◌, ◌||◌, ℕ, None, Some, true, [], is_some, length, IsTrue, IfOk, IfErr, OnOk, OnErr};
+ghost use Rattle.std.specs.Prelude.{◌≡◌, ◌≤◌, ◌<◌, ◌-◌, ◌||◌, ℕ, None, Some, true, [], is_some, IsTrue, IfOk, IfErr, OnOk, OnErr};
 ghost use Rattle.wtf_base.specs.Places.{Place};
 ghost use Rattle.wtf_gc.specs.Extents.{extents_cover};
 ghost use Rattle.wtf_kv.specs.Stores.{is_live};
@@ -240,12 +240,12 @@ impl Gc {
         Ok(0)
     }
 
-    /// Frees the garbage of server `k`, and answers how many bytes those are. Asks that no mark of the
-    /// first scan passes its file's length on `k`. All memory is taken first: where it is short nothing
-    /// is freed. `Punch` where the server is down or its store failed; what was freed before counts as
-    /// freed. Before two scans have finished there is no garbage.
+    /// Frees the garbage of server `k`, one of the settings, and answers how many bytes those are. Asks
+    /// that no mark of the first scan passes its file's length on `k`. All memory is taken first: where it
+    /// is short nothing is freed. `Punch` where the server is down or its store failed; what was freed
+    /// before counts as freed. Before two scans have finished there is no garbage.
     pub fn collect<S: SliceStore>(&mut self, dev: &mut Dev<'_, S>, k: u8) -> Result<u64, Fault>
-        requires server { k < length (stores dev.old) }
+        requires server { k < dev.old.settings.servers }
         requires sound { IsSoundDev S.kind dev.old }
         requires marks { (f : ℕ) → mark_of self.old.older k f ≤ size_in S.kind (stores dev.old) k f }
         ensures frees { IfOk result (FreesAll S.kind k dev.old dev.new self.old self.new) }

@@ -1,10 +1,10 @@
 //! What the lists in the slices of bases name.
 
-ghost use Rattle.std.specs.Prelude.{◌≡◌, Some, IsTrue, [], ◌∷◌, map, OnOk, IfOk, IfErr};
+ghost use Rattle.std.specs.Prelude.{◌≡◌, ◌⊎◌, Some, IsTrue, [], ◌∷◌, map, OnOk, IfOk, IfErr};
 ghost use Rattle.std.specs.List.{All};
 ghost use Rattle.wtf_values.specs.declared.region.RegionValue as region;
 ghost use Rattle.wtf_meta.specs.Bytes.{SliceBytes, BaseBytes, any_slice};
-ghost use Rattle.wtf_region.specs.Devs.{IsSoundDev, GoesOn, between, inside_of};
+ghost use Rattle.wtf_region.specs.Devs.{IsSoundDev, GoesOn, between, inside_of, remembered};
 ghost use Rattle.wtf_region.specs.Showing.{OnlyRead};
 ghost use Rattle.wtf_region.specs.Reads.{IsSliceFault};
 ghost use Rattle.wtf_gc.specs.Extents.{extents_cover, no_places};
@@ -32,7 +32,8 @@ fn add_base_list<S: SliceStore>(
     requires sound { IsSoundDev S.kind dev.old }
     requires inside { SliceBytes (inside_of S.kind dev.old) slice.now }
     ensures read { OnOk result (ListsRead S.kind dev.old dev.new (slice.now ∷ []) found.old found.new) }
-    ensures fault { IfErr result (IsSliceFault S.kind dev.old dev.new slice.now) }
+    ensures fault { IfErr result (λ why. (why ≡ Fault.Memory) ⊎
+        (IsSliceFault S.kind dev.old dev.new slice.now why × (remembered dev.new ≡ remembered dev.old))) }
     ensures reads { OnlyRead S.kind (between dev.old dev.new) }
     ensures dev { GoesOn S.kind dev.old dev.new [] }
 {

@@ -1,6 +1,6 @@
 //! Freeing extents, one after another.
 
-ghost use Rattle.std.specs.Prelude.{◌≡◌, ◌≢◌, ℕ, true, [], ◌∷◌, length, slice_index_or, OnOk, OnErr, IfErr};
+ghost use Rattle.std.specs.Prelude.{◌≡◌, ◌≢◌, ℕ, true, [], ◌∷◌, slice_index_or, OnOk, OnErr, IfErr};
 ghost use Rattle.std.specs.List.{All};
 ghost use Rattle.wtf_replica.specs.Inside.{size_in};
 ghost use Rattle.wtf_replica.specs.Faults.{IsPunchFault};
@@ -16,7 +16,7 @@ use wtf_region::Dev;
 /// Frees an extent.
 fn free<S: SliceStore>(dev: &mut Dev<'_, S>, e: &Extent) -> Result<(), Fault>
     requires sound { IsSoundDev S.kind dev.old }
-    requires inside { LiesOn (size_in S.kind (stores dev.old)) (length (stores dev.old)) (range_of e.now) }
+    requires inside { LiesOn (size_in S.kind (stores dev.old)) dev.old.settings.servers (range_of e.now) }
     ensures ok { OnOk result (GoesOn S.kind dev.old dev.new (range_of e.now ∷ [])) }
     ensures zeroed { OnOk result (AreZeroed S.kind dev.old dev.new (range_of e.now ∷ [])) }
     ensures fault { IfErr result (IsPunchFault S.kind (between dev.old dev.new) e.now.server) }
@@ -38,7 +38,7 @@ pub(crate) fn free_each<S: SliceStore>(
     extents: &[Extent],
 ) -> Result<(), Stopped>
     requires sound { IsSoundDev S.kind dev.old }
-    requires inside { All (LiesOn (size_in S.kind (stores dev.old)) (length (stores dev.old)))
+    requires inside { All (LiesOn (size_in S.kind (stores dev.old)) dev.old.settings.servers)
         (ranges_of extents.now) }
     ensures ok { OnOk result (GoesOn S.kind dev.old dev.new (ranges_of extents.now)) }
     ensures zeroed { OnOk result (AreZeroed S.kind dev.old dev.new (ranges_of extents.now)) }

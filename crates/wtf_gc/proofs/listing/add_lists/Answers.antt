@@ -1,4 +1,4 @@
-use Rattle.std.proofs.Common.{rules, ◌≡◌, ◌+◌, inr, arith, map, take, Some, sym, ap, ◌∙◌, subst, List, [], ◌∷◌, ◌++◌, get_or}
+use Rattle.std.proofs.Common.{rules, ◌≡◌, ◌+◌, inl, inr, arith, map, take, Some, sym, ap, ◌∙◌, subst, List, [], ◌∷◌, ◌++◌, get_or}
 use Rattle.std.specs.List.{Contains}
 use Rattle.std.proofs.lemmas.List.Elements.{All-get_or, All-weaker, Contains-get_or, Contains-append_left}
 use Rattle.std.proofs.lemmas.Result.{err_from_is_err_and}
@@ -41,18 +41,22 @@ returns-in_err-add_base_list-clause-fault g c =
     let b : Base = c.base-item.result in
     let same : get_or bases c.loop-base.base-index b ≡ b = search rules in
     let p = err_from_is_err_and c.from_residual.result c.from_residual.ensures.1 in
-    rw (p.1, p.2) (inr (record {
-      mid = c.loop-base.dev;
-      goes = c.loop-base.invariant.goes_on;
-      before = c.loop-base.invariant.so_far.asked;
-      recalls = c.loop-base.invariant.so_far.recalls;
-      among = All-weaker (λ (f : ListFact). Contains (map slice_in (take c.loop-base.base-index bases)) f.slice)
-          (λ (f : ListFact). Contains (map slice_in bases) f.slice) (λ f h. mapped_first slice_in bases c.loop-base.base-index f.slice h)
-          c.loop-base.invariant.so_far.asked c.loop-base.invariant.so_far.among;
-      base = b;
-      one = subst (λ (x : Base). Contains bases x) same (Contains-get_or bases c.loop-base.base-index b (omega arith));
-      cause = c.in_err-add_base_list.ensures.fault;
-    }))
+    rw (p.1, p.2) (elim c.in_err-add_base_list.ensures.fault [
+      | inl memory ↦ inl memory
+      | inr lacks ↦ inr (record {
+        mid = c.loop-base.dev;
+        goes = c.loop-base.invariant.goes_on;
+        before = c.loop-base.invariant.so_far.asked;
+        recalls = c.loop-base.invariant.so_far.recalls;
+        among = All-weaker (λ (f : ListFact). Contains (map slice_in (take c.loop-base.base-index bases)) f.slice)
+            (λ (f : ListFact). Contains (map slice_in bases) f.slice) (λ f h. mapped_first slice_in bases c.loop-base.base-index f.slice h)
+            c.loop-base.invariant.so_far.asked c.loop-base.invariant.so_far.among;
+        base = b;
+        one = subst (λ (x : Base). Contains bases x) same (Contains-get_or bases c.loop-base.base-index b (omega arith));
+        cause = lacks.0;
+        left = lacks.1;
+      })
+    ])
 
 pub returns-in_err-add_base_list-clause-dev : goal.returns-in_err-add_base_list-clause-dev
 returns-in_err-add_base_list-clause-dev g c = goes_on g.met.S.SliceStore.laws c.loop-base.invariant.goes_on c.add_base_list.ensures.dev

@@ -1,5 +1,6 @@
-use Rattle.std.proofs.Common.{[], ◌∷◌, ◌++◌, take, length, Some, refl, sym, ap, ◌∙◌, subst}
+use Rattle.std.proofs.Common.{[], ◌∷◌, ◌++◌, take, Some, refl, sym, ap, ◌∙◌, subst}
 use Rattle.std.proofs.lemmas.List.Elements.{All-get_or}
+use Rattle.wtf_base.specs.declared.settings.Settings.{Settings}
 use Rattle.wtf_replica.specs.Inside.{size_in}
 use Rattle.wtf_replica.proofs.Spans.{same_lengths_on, same_syncs_on}
 use Rattle.wtf_region.specs.Devs.{GoesOn, stores}
@@ -25,13 +26,15 @@ pub free-requires-clause-inside : goal.free-requires-clause-inside
 free-requires-clause-inside g c =
     let kind = g.S.SliceStore.kind in
     let old = stores c.args.dev.now in
+    let servers = c.args.dev.now.settings.servers in
     let es = c.args.extents.now in
     let e : Extent = c.index-extents-done.result in
     let inv = c.loop-done.invariant in
-    lies_later kind old (stores c.loop-done.dev) (range_of e) inv.goes_on.each.same_length inv.same_lengths
-    (subst (λ (x : Extent). LiesOn (size_in kind old) (length old) (range_of x)) (sym c.index-extents-done.is)
-    (All-get_or (λ (x : Extent). LiesOn (size_in kind old) (length old) (range_of x)) es c.loop-done.done e c.loop-done-test.true
-    (all_ranges (LiesOn (size_in kind old) (length old)) es c.requires.inside)))
+    subst (λ (st : Settings). LiesOn (size_in kind (stores c.loop-done.dev)) st.servers (range_of e)) (sym inv.goes_on.settings)
+    (lies_later kind old (stores c.loop-done.dev) servers (range_of e) c.requires.sound.shelf inv.goes_on.each.same_length inv.same_lengths
+    (subst (λ (x : Extent). LiesOn (size_in kind old) servers (range_of x)) (sym c.index-extents-done.is)
+    (All-get_or (λ (x : Extent). LiesOn (size_in kind old) servers (range_of x)) es c.loop-done.done e c.loop-done-test.true
+    (all_ranges (LiesOn (size_in kind old) servers) es c.requires.inside))))
 
 pub returns-in-Err-clause-err : goal.returns-in-Err-clause-err
 returns-in-Err-clause-err g c =
