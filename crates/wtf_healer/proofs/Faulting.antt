@@ -20,7 +20,7 @@ use Rattle.wtf_replica.specs.Faults.{AreAllOut, IsWriteFault}
 use Rattle.wtf_replica.specs.Outs.{IsOut}
 use Rattle.wtf_replica.specs.Spans.{Span, span}
 use Rattle.wtf_replica.proofs.Spans.{each_kept, all_out_since, out_since, same_syncs_on}
-use Rattle.wtf_meta.specs.Bytes.{EntryBytes}
+use Rattle.wtf_meta.specs.Bytes.{EntryBytes, SliceBytes}
 use Rattle.wtf_region.specs.declared.dev.Dev.{Dev}
 use Rattle.wtf_region.specs.Devs.{IsSoundDev, GoesOn, stores, is_down_in, between}
 use Rattle.wtf_region.specs.Showing.{Reading, Gives, IsReadablePart, AreReadable, LacksPart, IsShowFault}
@@ -28,24 +28,26 @@ use Rattle.wtf_healer.specs.Bases.{inside_left}
 use Rattle.wtf_healer.specs.Restored.{IsEntryFault, IsAnewFault, IsRestoreFault, OnlyStored}
 use Rattle.wtf_healer.specs.Sparse.{is_sparse_part}
 use Rattle.wtf_healer.proofs.Placing.{sparse_same}
-use Rattle.wtf_healer.proofs.Reading.{left_readable}
+use Rattle.wtf_healer.proofs.Reading.{left_readable, left_known}
 use Rattle.wtf_healer.proofs.Restoring.{down_same}
 
 -- ---- one piece
 
 module _ {S : Type 0} (kind : StoreKind S) where
   part_readable : (dev : Dev S) → IsSoundDev kind dev → (n : ℕ) (part : Part) → HasLength n part
-      → ((i : ℕ) → i < n → inside_left kind dev (part_origin part i) ≡ true) → IsReadablePart kind (is_down_in dev) (stores dev) part
+      → ((i : ℕ) → i < n → inside_left kind dev (part_origin part i) ≡ true) → IsReadablePart kind dev part
   part_readable dev sound n Zero len h = tt
   part_readable dev sound n (Held s) len h =
-      left_readable kind (stores dev) dev.settings (is_down_in dev) sound.shelf s (λ i below. h i (omega (arith, below, len)))
+      let bytes : SliceBytes (inside_left kind dev) s = λ i below. h i (omega (arith, below, len)) in (
+        left_readable kind (stores dev) dev.settings (is_down_in dev) sound.shelf s bytes,
+        left_known kind (stores dev) dev.settings (is_down_in dev) sound.shelf s bytes,
+      )
 
   pub piece_readable : (dev : Dev S) → IsSoundDev kind dev → (e : Entry) (p : Piece) → p.part ≡ e.part → EntryBytes (inside_left kind dev) e
-      → AreReadable kind (is_down_in dev) (stores dev) (p ∷ [])
+      → AreReadable kind dev (p ∷ [])
   piece_readable dev sound e p part h =
-      All-cons (λ (q : Piece). IsReadablePart kind (is_down_in dev) (stores dev) q.part) p []
-      (subst (IsReadablePart kind (is_down_in dev) (stores dev)) (sym part) (part_readable dev sound e.len e.part e.held h))
-      (All-nil (λ (q : Piece). IsReadablePart kind (is_down_in dev) (stores dev) q.part))
+      All-cons (λ (q : Piece). IsReadablePart kind dev q.part) p [] (subst (IsReadablePart kind dev) (sym part) (part_readable dev sound e.len e.part e.held h))
+      (All-nil (λ (q : Piece). IsReadablePart kind dev q.part))
 
   only_piece : (before after : List Piece) (p q : Piece) → p ∷ [] ≡ before ++ q ∷ after → q ≡ p
   only_piece [] after p q e = cc

@@ -5,7 +5,7 @@ use Rattle.std.proofs.Common.{inl, inr}
 use Rattle.std.specs.List.{All, list_all}
 use Rattle.std.proofs.lemmas.Bool.{and_parts, and_from, or_cases, or_left, or_right, ltb-true, lt-ltb, leb-true, cases_Bool}
 use Rattle.std.proofs.lemmas.Grind.{same_number_lists}
-use Rattle.std.proofs.lemmas.List.Elements.{All-nil, All-cons, All-head, All-tail}
+use Rattle.std.proofs.lemmas.List.Elements.{All-nil, All-cons, All-head, All-tail, All-weaker}
 use Rattle.std.proofs.lemmas.List.Sums.{AllPass-from_list_all}
 use Rattle.wtf_base.specs.declared.pointer.Pointer.{Pointer}
 use Rattle.wtf_base.specs.declared.settings.Settings.{Settings}
@@ -31,6 +31,7 @@ use Rattle.wtf_replica.proofs.InsideLaws.{size_in-at}
 use Rattle.wtf_meta.specs.Bytes.{PartBytes, EntryBytes, SliceBytes}
 use Rattle.wtf_region.specs.declared.dev.Dev.{Dev}
 use Rattle.wtf_region.specs.Devs.{GoesOn, stores, is_down_in, between}
+use Rattle.wtf_region.specs.Inside.{IsOnServers}
 use Rattle.wtf_region.proofs.ListReads.{some_bytes}
 use Rattle.wtf_image.specs.Rules.{lies_inside_without}
 use Rattle.wtf_healer.specs.Bases.{is_place_left, part_lies, list_lies, UpTells, IsListIn, IsNoListIn, IsListRead, IsListFault}
@@ -64,6 +65,16 @@ module _ {S : Type 0} (kind : StoreKind S) (shelf : List S) (settings : Settings
       let all = AllPass-from_list_all P (places_of s (n - 1)) (h (n - 1) (omega (arith, some))) in
       let here = All-unmap (λ q. P q ≡ true) (place_in (n - 1)) (pointers_of s) all k d below
       in copy_readable n (get_or (pointers_of s) k d) (pointers-len s k d below) some here
+
+  -- and its copies are on servers of the settings
+  pub left_known : (s : Slice) → SliceBytes (λ places. list_all (is_place_left kind shelf settings down) places) s → IsOnServers settings.servers s
+  left_known s h =
+      let P : Place → Bool = is_place_left kind shelf settings down in
+      All-unmap (λ (q : Place). q.server < settings.servers) (place_in 0) (pointers_of s)
+      (All-weaker (λ (q : Place). P q ≡ true) (λ (q : Place). q.server < settings.servers)
+      (λ q at. ltb-true q.server settings.servers
+      (and_parts (nat_lt q.server settings.servers) (nat_lt q.file 8 && (down q.server || nat_lt q.at (size_in kind shelf q.server q.file))) at).0)
+      (places_of s 0) (AllPass-from_list_all P (places_of s 0) (h 0 (some_bytes s))))
 
   -- what passes the test of a whole extent passes it byte by byte
   place_left : (i : ℕ) (p : Pointer) → i < p.len → lies_inside_without down settings.servers (size_in kind shelf) p ≡ true
