@@ -1,14 +1,17 @@
 -- Why a fault was answered, and what a line added to the stores.
 use Rattle.wtf_clients.proofs.Common.{option_map, cond-false, LacksSlice, file_bytes, IsSoundDev, file_later, ShowPlaces, SliceBytes, IsPutFault, IsCallPlace}
-use Rattle.wtf_clients.proofs.Common.{IsSome, cond-true, StoreKind, PlaceView, AreTooFew, PartBytes, grown_file, has_copies, IsPlacedBy, RegionList, data_of_op}
+use Rattle.wtf_clients.proofs.Common.{IsSome, cond-true, StoreKind, PlaceView, AreTooFew, PartBytes, grown_place, has_copies, IsPlacedBy, RegionList}
+use Rattle.wtf_clients.proofs.Common.{data_of_op}
 use Rattle.wtf_clients.proofs.Common.{Bool, part_origin, IsYankFault, SameLengths, PiecesBytes, SessionView, plans_bytes, IsReadCause, IsPeekCause, IsCallFault}
 use Rattle.wtf_clients.proofs.Common.{true, Place, Fault, Kept, Slice, Three, Span, Answer, Handle, stores, OwnBy, Asked, Frees, length, Option, subst, arith}
 use Rattle.wtf_clients.proofs.Common.{nat_lt, lt-ltb, le-ltb, InodeId, Extents, IsSound, len_of, is_down, between, file_of, IsOwnOf, no_load, HasCause, IsPlain}
 use Rattle.wtf_clients.proofs.Common.{◌-◌, One, Two, Op, Map, Dev, Load, Data, ◌≡◌, ◌⊎◌, ◌+◌, ◌<◌, List, [], ◌∷◌, None, Some, refl, sym, ap, ◌∙◌, inl, inr}
-use Rattle.wtf_clients.proofs.Common.{cases_lt, FileBytes, any_slice, handle_in, inside_of, IsRefusal, end_place, LacksData, HasFailed, AddsBytes, GrowsOnly, ℕ}
+use Rattle.wtf_clients.proofs.Common.{cases_lt, FileBytes, any_slice, handle_in, inside_of, IsRefusal, place_at, place_at_end, data_len, GrowsOnce, LacksData}
+use Rattle.wtf_clients.proofs.Common.{HasFailed, AddsBytes}
+use Rattle.wtf_clients.proofs.Common.{AddsOnce, ℕ, ⊤}
 use Rattle.wtf_clients.proofs.Common.{All-head, All-tail, Settings, KindLaws, IsLogged, MapBytes, slice_in, OnlyRead, found_in, any_byte, IsStored, IsPlaced}
 use Rattle.wtf_clients.proofs.Common.{LeavesStores, Piece, pieces_origin, IsConcatFault, SessionBytes, reads_nothing, StoresNothing, IsAgainFault, fault_answer}
-use Rattle.wtf_region.specs.Devs.{place_in}
+use Rattle.wtf_clients.specs.Outcomes.{HasLength}
 use Rattle.wtf_clients.proofs.{Staying.IsFault, Staying.fault_is, Unread.slice_copies, Lacking.AreFullLists, Lacking.memory_none, Lacking.cause_since}
 use Rattle.wtf_clients.proofs.{Lacking.file_caused, Lacking.shown_caused, Lacking.read_caused}
 
@@ -75,7 +78,7 @@ module _ {S : Type 0} (kind : StoreKind S) (t : Span S) (settings : Settings) wh
 
   -- a line that stores nothing
   pub none_added : (a : Answer) → SameLengths kind t.before t.after → AddsBytes kind t settings no_load a
-  none_added Answer.FaultWrite h = tt
+  none_added Answer.FaultWrite h = inl h
   none_added a h = h
 
   pub refused_adds : (given : Load) (a : Answer) → IsRefusal a → SameLengths kind t.before t.after → AddsBytes kind t settings given a
@@ -84,6 +87,23 @@ module _ {S : Type 0} (kind : StoreKind S) (t : Span S) (settings : Settings) wh
   refused_adds RegionList (Answer.Refused w) r h = h
   refused_adds (Frees k) (Answer.Refused w) r h = h
   refused_adds given a r h = absurd r
+
+-- no file of a store grew, or but the one of a place that is as Goes says, by the bytes that are to be stored, once
+abbrev pub GrowsBy : {S : Type 0} → StoreKind S → Span S → (PlaceView → Type 0) → Load → Type 0
+GrowsBy kind t Goes load = SameLengths kind t.before t.after ⊎ ((place : PlaceView) × Goes place × (n : ℕ) × HasLength load n × GrowsOnce kind t place n)
+
+module _ {S : Type 0} (kind : StoreKind S) (t : Span S) where
+  -- so they grew once
+  pub adds_once : (Goes : PlaceView → Type 0) (load : Load) → GrowsBy kind t Goes load → AddsOnce kind t load
+  adds_once Goes load (inl same) = inl same
+  adds_once Goes load (inr grew) = inr (grew.0, grew.2, grew.3, grew.4)
+
+  -- as they may where too few servers took the bytes
+  pub write_adds : (settings : Settings) (load : Load) → AddsOnce kind t load → AddsBytes kind t settings load Answer.FaultWrite
+  write_adds settings (Data []) h = h
+  write_adds settings (Data (b ∷ bs)) h = h
+  write_adds settings RegionList h = h
+  write_adds settings (Frees k) h = h
 
 -- a slice has a byte
 some_len : (n : ℕ) (e : Extents) → IsSound n e → 0 < n
@@ -139,10 +159,9 @@ module _ {S : Type 0} (kind : StoreKind S) (old new : Dev S) where
       → a ≡ Answer.Okay → 0 < length (data_of_op o)
       → (p : PlaceView) × IsCallPlace old w s o p × (slice : Slice) × IsStored kind (between old new) old.settings.replicas p (data_of_op o) slice
   call_placed w s (Op.Write f bytes) own a h lacks ok some =
-      own_placed (handle_in s f) (λ g. place_in old g.inode g.off) (IsCallPlace old w s (Op.Write f bytes)) bytes own a h lacks (λ g is. (g, is, refl)) ok some
-  call_placed w s (Op.Append f bytes) own a h lacks ok some = own_placed (handle_in s f)
-      (λ g. place_in old g.inode (end_place old.settings.region (file_of g.inode w))) (IsCallPlace old w s (Op.Append f bytes))
-      bytes own a h lacks (λ g is. (g, is, refl)) ok some
+      own_placed (handle_in s f) (place_at old) (IsCallPlace old w s (Op.Write f bytes)) bytes own a h lacks (λ g is. (g, is, refl)) ok some
+  call_placed w s (Op.Append f bytes) own a h lacks ok some =
+      own_placed (handle_in s f) (place_at_end old w) (IsCallPlace old w s (Op.Append f bytes)) bytes own a h lacks (λ g is. (g, is, refl)) ok some
   call_placed w s o own a h lacks ok some = absurd (omega (arith, some))
 
   own_by_full : (o : Option Handle) (place : Handle → PlaceView) (bytes : List ℕ) (own : Option Slice) → OwnBy kind old new o place bytes own
@@ -180,35 +199,36 @@ module _ {S : Type 0} (kind : StoreKind S) (old new : Dev S) where
       subst (λ (r : Answer). HasCause kind (between old new) old.settings ⊥ based full (Data bytes) r) (sym cause.0) (cause.1, cause.2)
 
   put_adds : (bytes : List ℕ) (why : Fault) (a : Answer) → fault_answer why ≡ Some a → IsPutFault kind old new bytes why
-      → AddsBytes kind (between old new) old.settings (Data bytes) a
-  put_adds bytes why a is h = by bytes (put_fault bytes why a is h)
-    where
-      by : (l : List ℕ) → (a ≡ Answer.FaultWrite) × (0 < length l) × AreTooFew kind (between old new) old.settings.servers old.settings.replicas
-          → AddsBytes kind (between old new) old.settings (Data l) a
-      by [] cause = absurd (let some = cause.1 in omega (arith, some))
-      by (b ∷ bs) cause = subst (λ (r : Answer). AddsBytes kind (between old new) old.settings (Data (b ∷ bs)) r) (sym cause.0) tt
+      → AddsOnce kind (between old new) (Data bytes) → AddsBytes kind (between old new) old.settings (Data bytes) a
+  put_adds bytes why a is h once =
+      subst (λ (r : Answer). AddsBytes kind (between old new) old.settings (Data bytes) r) (sym (put_fault bytes why a is h).0)
+      (write_adds kind (between old new) old.settings (Data bytes) once)
 
-  -- whatever comes of it, only the file grows to which its bytes were to go
-  own_grows : (o : Option Handle) (place : Handle → PlaceView) (asked : Asked) → LeavesStores kind (option_map (λ g. (place g).file) o) (between old new)
-      → ((g : Handle) → o ≡ Some g → asked.goes_to (place g)) → GrowsOnly kind (between old new) asked
-  own_grows None place asked h goes = inl h.files
-  own_grows (Some g) place asked h goes = inr (place g, goes g refl, h.files)
+  -- whatever comes of it, only the file of the place grows to which its bytes were to go, by them, once
+  own_grows : (o : Option Handle) (place : Handle → PlaceView) (Goes : PlaceView → Type 0) (bytes : List ℕ)
+      → LeavesStores kind (option_map place o) (length bytes) (between old new) → ((g : Handle) → o ≡ Some g → Goes (place g))
+      → GrowsBy kind (between old new) Goes (Data bytes)
+  own_grows None place Goes bytes h goes = inl h.files
+  own_grows (Some g) place Goes bytes h goes = inr (place g, goes g refl, length bytes, refl, h.files)
 
-  pub call_grows : (w : Map) (s : SessionView) (o : Op (List ℕ)) (asked : Asked) → LeavesStores kind (grown_file old w s o) (between old new)
-      → ((place : PlaceView) → IsCallPlace old w s o place → asked.goes_to place) → GrowsOnly kind (between old new) asked
-  call_grows w s (Op.Write f bytes) asked h goes =
-      own_grows (handle_in s f) (λ g. place_in old g.inode g.off) asked h (λ g is. goes (place_in old g.inode g.off) (g, is, refl))
-  call_grows w s (Op.Append f bytes) asked h goes = own_grows (handle_in s f) (λ g. place_in old g.inode (end_place old.settings.region (file_of g.inode w)))
-      asked h
-      (λ g is. goes (place_in old g.inode (end_place old.settings.region (file_of g.inode w))) (g, is, refl))
-  call_grows w s o asked h goes = inl h.files
+  pub call_grows : (w : Map) (s : SessionView) (o : Op (List ℕ)) (Goes : PlaceView → Type 0)
+      → LeavesStores kind (grown_place old w s o) (data_len o) (between old new) → ((place : PlaceView) → IsCallPlace old w s o place → Goes place)
+      → GrowsBy kind (between old new) Goes (Data (data_of_op o))
+  call_grows w s (Op.Write f bytes) Goes h goes =
+      own_grows (handle_in s f) (place_at old) Goes bytes h (λ g is. goes (place_at old g) (g, is, refl))
+  call_grows w s (Op.Append f bytes) Goes h goes =
+      own_grows (handle_in s f) (place_at_end old w) Goes bytes h (λ g is. goes (place_at_end old w g) (g, is, refl))
+  call_grows w s o Goes h goes = inl h.files
 
   -- what a call that failed stored
   pub fault_adds : (w : Map) (s : SessionView) (o : Op (List ℕ)) (why : Fault) (a : Answer) → fault_answer why ≡ Some a → IsCallFault kind old new w s o why
-      → (StoresNothing o → OnlyRead kind (between old new)) → AddsBytes kind (between old new) old.settings (Data (data_of_op o)) a
-  fault_adds w s (Op.Write f bytes) why a is h reads = put_adds bytes why a is h
-  fault_adds w s (Op.Append f bytes) why a is h reads = put_adds bytes why a is h
-  fault_adds w s o why a is h reads = none_added kind (between old new) old.settings a (reads tt).lengths
+      → LeavesStores kind (grown_place old w s o) (data_len o) (between old new) → (StoresNothing o → OnlyRead kind (between old new))
+      → AddsBytes kind (between old new) old.settings (Data (data_of_op o)) a
+  fault_adds w s (Op.Write f bytes) why a is h leaves reads = put_adds bytes why a is h
+      (adds_once kind (between old new) (λ place. ⊤) (Data bytes) (call_grows w s (Op.Write f bytes) (λ place. ⊤) leaves (λ place at. tt)))
+  fault_adds w s (Op.Append f bytes) why a is h leaves reads = put_adds bytes why a is h
+      (adds_once kind (between old new) (λ place. ⊤) (Data bytes) (call_grows w s (Op.Append f bytes) (λ place. ⊤) leaves (λ place at. tt)))
+  fault_adds w s o why a is h leaves reads = none_added kind (between old new) old.settings a (reads tt).lengths
 
 -- P holds of the bytes of a map, and of those of the slices in hand; and Q of the slices of bases
 abbrev pub SeenBytes : (List Place → Bool) → (Slice → Bool) → Map → SessionView → Type 0
@@ -255,15 +275,15 @@ module _ {S : Type 0} {kind : StoreKind S} (laws : KindLaws kind) (old new : Dev
       (has_copies old.settings.replicas) ps) → fault_answer why ≡ Some a → LacksSlice kind old new o off n why
       → Caused a
   slice_by None off n why a whole is h = absurd h
-  slice_by (Some ps) off n why a whole is (inl memory) = absurd (memory_none why a is memory)
-  slice_by (Some ps) off n why a whole is (inr lacks) =
+  slice_by (Some ps) off n why a whole is (inl memory, left) = absurd (memory_none why a is memory)
+  slice_by (Some ps) off n why a whole is (inr lacks, left) =
       shown_caused laws old new sound based full O why a is n (ShowPlaces n (λ i. pieces_origin ps (off + i)))
       (λ c qs plans. plans_bytes (has_copies old.settings.replicas) qs n (λ i. pieces_origin ps (off + i)) plans
       (λ i below. piece_bytes (has_copies old.settings.replicas) refl ps (off + i) (whole c ps refl))) lacks
 
   peek_by : (label off n : ℕ) (why : Fault) (a : Answer) → fault_answer why ≡ Some a → IsPeekCause kind old new (slice_in s label) off n why → Caused a
-  peek_by label off n why a is (inl memory) = absurd (memory_none why a is memory)
-  peek_by label off n why a is (inr h) = slice_by (slice_in s label) off n why a (λ c ps there. (copies c).1 label ps there) is h
+  peek_by label off n why a is (inl memory, left) = absurd (memory_none why a is memory)
+  peek_by label off n why a is (inr h, left) = slice_by (slice_in s label) off n why a (λ c ps there. (copies c).1 label ps there) is h
 
   concat_by : (paths : List (List ℕ)) (why : Fault) (a : Answer) → fault_answer why ≡ Some a → IsConcatFault kind old new w paths why → Caused a
   concat_by paths why a is (inl memory) = absurd (memory_none why a is memory)

@@ -44,8 +44,8 @@ module _ {S : Type 0} {kind : StoreKind S} (laws : KindLaws kind) (dev new : Dev
 
     call_leaves : (r : Result Answer Fault) → CallOf (by_verb old.kv) o r → LeavesAlone kind (between dev new) (lent_by dev new) old e
     call_leaves r did =
-        leaves_by kind dev new old e did.leaves.down did.leaves.syncs
-        (call_grows kind dev new (seen old.kv x.at) x.session o (line_asked kind (between dev new) (lent_by dev new) old e) did.leaves
+        leaves_by kind dev new old e did.leaves.down did.dev.past did.leaves.syncs
+        (call_grows kind dev new (seen old.kv x.at) x.session o (line_asked kind (between dev new) (lent_by dev new) old e).goes_to did.leaves
         (λ place at. (dev, new, lent_to dev new ring, (x, writes.there, at))))
         (λ none. refused_lists dev new _ _ (call_refusal x) (as_words x y dev new r (call_refusal x) did.instead)
         (none_made old c x (Verb.Call o) writes.there none))
@@ -75,7 +75,7 @@ module _ {S : Type 0} {kind : StoreKind S} (laws : KindLaws kind) (dev new : Dev
 
   step_leaves : (r : Result Answer Fault) → StepOf (by_verb old.kv) r → LeavesAlone kind (between dev new) (lent_by dev new) old stepping
   step_leaves r did =
-      leaves_read kind dev new old stepping did.reads
+      leaves_read kind dev new old stepping did.reads did.dev
       (λ none. refused_lists dev new _ _ (step_refusal x) did.refused (none_made old c x Verb.Step writes.there none))
 
   pub step_line : (a : Answer) → StepOf (by_verb old.kv) (Ok a) → y.ended ≡ false → LineOf set_line stepping (Ok a)
@@ -140,7 +140,8 @@ module _ {S : Type 0} {kind : StoreKind S} (laws : KindLaws kind) (dev new : Dev
       where
         commit_leaves : (r : Result Answer Fault) → CommitOf (by_verb kv) r
             → LeavesAlone kind (between dev new) (lent_by dev new) old (Event.Client c Verb.Commit)
-        commit_leaves r q = leaves_read kind dev new old (Event.Client c Verb.Commit) q.reads (λ none. absurd (none_made old c x Verb.Commit writes.there none))
+        commit_leaves r q =
+            leaves_read kind dev new old (Event.Client c Verb.Commit) q.reads q.dev (λ none. absurd (none_made old c x Verb.Commit writes.there none))
 
   -- one that failed
   pub commit_lost : (kv : Store Key Value) (why : Fault) (r : Result Answer OutOfMemory) → IfOk r (λ a. fault_answer why ≡ Some a)
@@ -158,7 +159,7 @@ module _ {S : Type 0} {kind : StoreKind S} (laws : KindLaws kind) (dev new : Dev
         told = λ tells. stays_told laws dev new did.dev lent old sound inside tells after c no_load a stays
             (commit_why laws dev new did.dev lent old sound inside tells c x why a writes.there same did.fault);
       })
-      (leaves_read kind dev new old (Event.Client c Verb.Commit) did.reads (λ none. absurd (none_made old c x Verb.Commit writes.there none)))
+      (leaves_read kind dev new old (Event.Client c Verb.Commit) did.reads did.dev (λ none. absurd (none_made old c x Verb.Commit writes.there none)))
       (record {
         clients = writes.alike (ap without_hand did.err);
         number = did.err_store.0;

@@ -59,8 +59,9 @@ pub use Rattle.wtf_kv.proofs.{EditLaws.Agree-itself, KeptLaws.among_any, KeptLaw
 pub use Rattle.wtf_kv.proofs.{PinLaws.count-push}
 pub use Rattle.wtf_log.specs.{Calls.Calls, Calls.own_of, Standing.OpsStandFor}
 pub use Rattle.wtf_log.proofs.{StandingLaws.OpStandsFor-weaker}
-pub use Rattle.wtf_replica.specs.{Bytes.byte_at, Copies.IsNewCopy, Copies.IsStored, Downs.during, Downs.is_down, Inside.size_in, Outs.IsLeftDown, Outs.IsOut}
-pub use Rattle.wtf_replica.specs.{Outs.SameLengths, Outs.SameSyncs, Spans.Span, Spans.span}
+pub use Rattle.wtf_replica.specs.{Bytes.byte_at, Copies.GrowsOnce, Copies.IsNewCopy, Copies.IsStored, Downs.during, Downs.is_down, Inside.size_in}
+pub use Rattle.wtf_replica.specs.{Outs.IsLeftDown, Outs.IsOut}
+pub use Rattle.wtf_replica.specs.{Outs.SameFrom, Outs.SameLengths, Outs.SameSyncs, Spans.Span, Spans.span}
 pub use Rattle.wtf_replica.specs.Faults.{AreAllOut, AreTooFew, IsPunchFault, last_server, punched_on}
 pub use Rattle.wtf_replica.proofs.{Bytes.byte_at-kept, InsideLaws.size_in-at, Spans.each_kept, Spans.out_since}
 pub use Rattle.wtf_values.specs.{Keys.key_cmp, Outcomes.outcome_of}
@@ -90,10 +91,11 @@ pub use Rattle.wtf_index.specs.{Checks.stands_at}
 pub use Rattle.wtf_region.specs.{Apart.are_apart, Apart.lies_apart, Apart.lies_in, Apart.with_ranges, Bases.bases_in, Cached.CacheTrue, Cached.Remembered}
 pub use Rattle.wtf_region.specs.{Cached.TrueBut, Inside.is_inside, Inside.list_lies_inside, declared.dev.Dev.Dev}
 pub use Rattle.wtf_region.specs.Devs.{GoesOn, IsSoundDev, RemembersTrue, between, inside_of, is_down_in, remembered, shown_in, stores, told_in}
-pub use Rattle.wtf_region.specs.Reads.{IsBaseFault, IsFileRead, IsRegionFault, IsSliceFault, LacksRegion, TellsFacts}
+pub use Rattle.wtf_region.specs.Reads.{IsBaseFault, IsFileRead, IsRegionFault, IsSliceFault, LacksRegion, Recalls, TellsFacts}
 pub use Rattle.wtf_region.specs.Showing.{AreReadable, IsShowFault, LacksPiece, OnlyRead, Shown, pieces_in}
 pub use Rattle.wtf_region.proofs.{Frames.shows_told, InsideLaws.inside_stays, InsideLaws.list_inside-to, InsideLaws.readable_from, InsideLaws.slice_inside}
-pub use Rattle.wtf_region.proofs.{Recording.still_seen, ShowLaws.reads_nothing, ShowLaws.shown_since, Spans.goes_nowhere, Spans.goes_on}
+pub use Rattle.wtf_region.proofs.{Recalls.recalls_later, Recalls.recalls_same, Recording.still_seen, ShowLaws.reads_nothing, ShowLaws.shown_since}
+pub use Rattle.wtf_region.proofs.{Spans.goes_nowhere, Spans.goes_on}
 pub use Rattle.wtf_region.proofs.ListReads.{fetched_is, file_later, file_read_later, pieces_inside, some_bytes}
 pub use Rattle.wtf_gc.specs.{Extents.extents_cover, Parts.Finds, Parts.IsIn, Parts.part_of, Parts.stands_in, Pinning.IsPinnedFor, Reading.PartLacksBase}
 pub use Rattle.wtf_gc.specs.{Reading.PartsRead, declared.extent.Extent.Extent}
@@ -103,27 +105,29 @@ pub use Rattle.wtf_gc.specs.Scans.{AreHeld, DoesParts, IsPieceFault, IsPrunedFro
 pub use Rattle.wtf_gc.specs.Views.{GcView, RunView, ScanView, is_garbage, mark_in, mark_of}
 pub use Rattle.wtf_gc.proofs.{Living.kept_region, Living.same_versions}
 pub use Rattle.wtf_compact.specs.Jobs.{HasRegion, IsJobOf, JobView, job_edits, job_target, puts, region_in_map, target_region}
-pub use Rattle.wtf_compact.specs.Planned.{HasForm, IsPlanFault, IsPlanned, IsSpilled, IsUnstoredShort, KeepsRegion, LacksServers, SparesStores, StoresList}
-pub use Rattle.wtf_compact.specs.Planned.{TellsRegion, spills}
+pub use Rattle.wtf_compact.specs.Planned.{GrowsByList, HasForm, IsPlanFault, IsPlanned, IsSpilled, IsUnstoredShort, KeepsRegion, LacksServers, SparesStores}
+pub use Rattle.wtf_compact.specs.Planned.{StoresList, TellsRegion, spills}
 pub use Rattle.wtf_compact.specs.{Putting.IsJobPut, Putting.IsStale, declared.target.Target.Target}
-pub use Rattle.wtf_compact.proofs.{PutLaws.put_bytes, Sparing.place_same}
+pub use Rattle.wtf_compact.proofs.{PutLaws.put_bytes}
 pub use Rattle.wtf_steps.specs.{Faults.LacksBytes, Faults.MayStandFor, Faults.ShowPlaces, Leaving.LeavesStores, Recorded.found_in, Steps.IsRefusal}
 pub use Rattle.wtf_steps.proofs.FaultWays.{All-middle, IsOfServers, file_fault_known, lacks_known, pieces_in-All, region_fault_known, servers_known, some_byte}
 pub use Rattle.wtf_steps.proofs.{FileWays.file_len_cap}
 pub use Rattle.wtf_image.specs.{Savable.AreBefore}
 pub use Rattle.wtf_slicing.specs.{Ops.IsConcatFault, Ops.IsYankFault, Shown.LacksSlice}
-pub use Rattle.wtf_rw.specs.{Ops.OwnBy, Reads.LacksRead, Stored.IsPutFault, Stored.SliceBytes, Stored.end_place}
-pub use Rattle.wtf_replay.specs.{Built.call_data, Called.IsCalled, Effects.Redoes, Effects.Scope, Effects.scope, Fits.IsFit, Installs.IsInstall}
+pub use Rattle.wtf_rw.specs.{Ops.OwnBy, Ops.place_at, Ops.place_at_end, Reads.LacksRead, Stored.IsPutFault, Stored.SliceBytes}
+pub use Rattle.wtf_replay.specs.{Built.call_data, Built.data_len, Called.IsCalled, Effects.Redoes, Effects.Scope, Effects.StopsAt, Effects.scope, Fits.IsFit}
+pub use Rattle.wtf_replay.specs.{Installs.IsInstall}
 pub use Rattle.wtf_replay.specs.{Keeps.LacksData, Refusals.call_refusal, Refusals.step_refusal, Refusals.try_refusal, Refusals.unmade}
 pub use Rattle.wtf_replay.specs.Causes.{FaultAt, IsAgainFault, IsCallFault, IsCommitFault, IsOwnOf, IsPeekCause, IsReadCause, MayEndFault, MayFaultAt}
-pub use Rattle.wtf_replay.specs.Causes.{ReplayFault, StoresNothing, fault_answer, grown_file}
+pub use Rattle.wtf_replay.specs.Causes.{ReplayFault, StoresNothing, fault_answer, grown_place}
 pub use Rattle.wtf_replay.specs.Insides.{HandBytes, HaveNamed, IsInsideTxn, IsKnown, LogBytes, NamesNow, NamesTxn, TxnBytes, lists_have}
 pub use Rattle.wtf_replay.specs.Replays.{IsEnded, IsStepped, IsTrueAttempt, IsTrueEnd, IsTrueStep}
 pub use Rattle.wtf_replay.specs.Sounds.{IsAwayTxn, LogStands, TellsMap, caller_at, tells_slice}
 pub use Rattle.wtf_replay.specs.Tried.{IsAttempted, KeepsMaps, KeepsPins, KeepsVersions, MovesPin, commit_from}
 pub use Rattle.wtf_replay.specs.Verbs.{ActsAgain, CallOf, CommitOf, StartsNow, StartsSound, StepOf, Turn, turn}
 pub use Rattle.wtf_replay.specs.Views.{TxnView, begun, hand_of, in_hand, rebased, untouched}
-pub use Rattle.wtf_replay.proofs.{EffectLaws.redone_later, Froms.from_one, Insiding.inside_later, Insiding.map_later, Keeping.fit_after, Later.Of}
+pub use Rattle.wtf_replay.proofs.{EffectLaws.redone_later, EffectLaws.stops_later, Froms.from_one, Insiding.inside_later, Insiding.map_later, Keeping.fit_after}
+pub use Rattle.wtf_replay.proofs.{Later.Of}
 pub use Rattle.wtf_replay.proofs.{Later.stands_later, Later.tells_all_on, Later.tells_on, Naming.again_weaker, Naming.named_inside, RwLaws.own_known}
 pub use Rattle.wtf_replay.proofs.{RwLaws.own_told_of, RwLaws.told_slice, Sounding.sound_along, Sounding.sound_later}
 pub use Rattle.wtf_clients.specs.Asked.{Asked, HasFailed, IsCallPlace, IsLent, IsPlaced, IsPlacedBy, LacksPunch, lending, lent_by, line_asked}
@@ -133,8 +137,9 @@ pub use Rattle.wtf_clients.specs.JobTurns.{DropTurn, DropsJob, FreePlan, IsMadeO
 pub use Rattle.wtf_clients.specs.Leaving.{GrowsOnly, LeavesAlone, MakesNoCall, ReadsNoList, SyncsNone}
 pub use Rattle.wtf_clients.specs.Lines.{Line, LineOf, TurnOf, lent_in, line, seen_in, through}
 pub use Rattle.wtf_clients.specs.{Named.TablesBytes, Named.any_byte, Named.has_copies, Named.no_slice, Off.TellsWhere, Planning.has_region}
-pub use Rattle.wtf_clients.specs.{Planning.plan_answer, Planning.refusal_at, Planning.refusal_of, Seeing.Seeing, Seeing.seeing}
-pub use Rattle.wtf_clients.specs.Outcomes.{AddsBytes, AddsThisList, AscendFrom, Data, Frees, HasCause, HasToStore, IsLost, IsNoList, IsUnread, IsUnspilled}
+pub use Rattle.wtf_clients.specs.{Planning.plan_answer, Planning.refusal_at, Planning.refusal_of, Seeing.Recalled, Seeing.Seeing, Seeing.seeing}
+pub use Rattle.wtf_clients.specs.Outcomes.{AddsBytes, AddsOnce, AddsThisList, AscendFrom, Data, Frees, HasCause, HasToStore, IsLost, IsNoList, IsUnread}
+pub use Rattle.wtf_clients.specs.Outcomes.{IsUnspilled}
 pub use Rattle.wtf_clients.specs.Outcomes.{Load, RegionList, SaveFault, SomeOut, data_of_op, last_of, load_of_job, no_load}
 pub use Rattle.wtf_clients.specs.Safe.{AreUpto, FollowsJob, FollowsTxn, IsMissed, IsOwnJob, IsOwnTxn, IsSafe, LieIn, NamesNone, OwnBytes, Went, is_below}
 pub use Rattle.wtf_clients.specs.Safe.{last_scan, off, scan_of}

@@ -4,7 +4,8 @@ use Rattle.wtf_clients.proofs.Common.{Piece, meaning, Answer, Word, NoEnt, IsDir
 use Rattle.wtf_clients.proofs.Common.{PathSet, Tree, TreeNode, Dir, File, ◌>>=◌, bytes_of, Path, Node, Folder, Value, MapBytes, any_slice, Told, HasBytes}
 use Rattle.wtf_clients.proofs.Common.{lists_in, FileView, IsFile, file_len, file_origin, file_of, Map, node_of, NodeAt, Stands, FileAt, node_of-is, node-file}
 use Rattle.wtf_clients.proofs.Common.{file_bytes, stands_at, Dev, TrueBut, IsSoundDev, stores, inside_of, between, IsFileRead, Shown, LacksBytes, IsOfServers}
-use Rattle.wtf_clients.proofs.Common.{some_byte, lacks_known, file_fault_known, file_len_cap, LacksRead, fault_answer, are_apart, map_stays, lists_have}
+use Rattle.wtf_clients.proofs.Common.{recalls_same, some_byte, lacks_known, file_fault_known, file_len_cap, LacksRead, fault_answer, are_apart, map_stays}
+use Rattle.wtf_clients.proofs.Common.{lists_have}
 use Rattle.wtf_clients.proofs.Common.{TablesView, metadata_now, AreTrue, file_answer, IsDumpAnswer, IsTrueFor, IsShownFile, IsDumped, LacksDump, any_byte}
 use Rattle.wtf_clients.proofs.Common.{has_copies, no_load, HasCause, IsPlain, Dumps, ReadsBases, dump_bases, dump_bases_of, Seeing, ◌≡◌, ℕ, ◌+◌, ◌*◌, ◌<◌, ◌≤◌}
 use Rattle.wtf_clients.proofs.Common.{min, nat_le, Bool, true, false, List, [], ◌∷◌, length, get_or, Option, None, Some, Result, Ok, Err, ◌≢◌, refl, sym, ap}
@@ -174,8 +175,9 @@ dump_plain (Answer.Refused w) h = tt
 dump_plain a h = absurd h
 
 -- a dump that is refused reads no list
-pub no_bases : {S : Type 0} (dev : Dev S) (w : Map) (p : List ℕ) (word : Word) → ReadsBases dev dev (dump_bases dev.settings.region w p (Answer.Refused word))
-no_bases dev w p word = record { facts = []; recalls = refl; wants = by (stands_at w p) }
+pub no_bases : {S : Type 0} (kind : StoreKind S) (dev : Dev S) (w : Map) (p : List ℕ) (word : Word)
+    → ReadsBases kind dev dev (dump_bases dev.settings.region w p (Answer.Refused word))
+no_bases kind dev w p word = record { facts = []; recalls = recalls_same kind dev dev refl; wants = by (stands_at w p) }
   where
     by : (o : Option Node) → [] ≡ dump_bases_of dev.settings.region w o (Answer.Refused word)
     by None = refl

@@ -6,7 +6,8 @@ use Rattle.wtf_clients.proofs.Common.{TellsAll, JobInUse, MapBytes, lists_in, of
 use Rattle.wtf_clients.proofs.Common.{IsPinnedOnceMore, RegionValue, region_facts, region_of_bytes, RemembersTrue, fault_answer, target_region, metadata_now, ℕ}
 use Rattle.wtf_clients.proofs.Common.{Region, MayFailPlan, maybe_stays, lists_have, KeepsRegion, TellsRegion, BesideView, with_labels, plan_answer, KeepsOthers}
 use Rattle.wtf_clients.proofs.Common.{Word, Tree, Told, Map, Dev, Jobs, Puts, ◌≡◌, Bool, true, List, [], None, Some, set, refl, sym, ap, ◌∙◌, ◌<◌, ◌∷◌, ◌++◌}
-use Rattle.wtf_clients.proofs.{JobPins.set_back, JobPins.set_none, Known.lent_to, Known.knows, Lives.now_bytes, PlanLaws.plan_is_due, Making.at_none}
+use Rattle.wtf_clients.proofs.{JobPins.set_back, JobPins.set_none, Known.lent_to, Known.knows, Known.recalled_in, Lives.now_bytes, PlanLaws.plan_is_due}
+use Rattle.wtf_clients.proofs.{Making.at_none}
 use Rattle.wtf_clients.proofs.{Making.at_some, Making.at_there, Staying.IsFault, Staying.fault_is}
 
 -- what stands beside, but for the jobs, is what it was
@@ -135,7 +136,7 @@ module _ {S : Type 0} (kind : StoreKind S) (dev new : Dev S) (ring : IsRing dev.
     plan_made goes free region = at_none (of_label old.beside.jobs j) _ _ none (record {
       job = x;
       plans = plans;
-      recalls = did.recalls;
+      recalls = recalled_in kind dev new (region_facts (target_region (metadata_now old.kv) x.target) did.under) did.recalls;
       known = made_known kind dev new x.target (target_region (metadata_now old.kv) x.target) x.value goes did;
       written = λ is. (dev, new, lent_to dev new ring, did.written is);
       own = made_own kind dev new x.target (target_region (metadata_now old.kv) x.target) x.value goes did;

@@ -4,14 +4,18 @@ use Rattle.wtf_clients.proofs.Common.{PlaceView, IsRing, IsStored, is_down, AreT
 use Rattle.wtf_clients.proofs.Common.{JobKind, Compact, MayFailPlan, MaybeBytes, ListSlices, MapBytes, any_slice, end_of, ListFact, region_facts, Map, LeadsTo}
 use Rattle.wtf_clients.proofs.Common.{region_of_bytes, one_leads, Path, Region, Dev, IsSoundDev, GoesOn, stores, inside_of, between, is_inside, OnlyRead}
 use Rattle.wtf_clients.proofs.Common.{IsOfServers, region_fault_known, fault_answer, Target, JobView, job_target, region_in_map, target_region, IsPlanned}
-use Rattle.wtf_clients.proofs.Common.{IsUnstoredShort, SparesStores, StoresList, LacksServers, IsPlanFault, spills, place_same, TablesView, of_label}
+use Rattle.wtf_clients.proofs.Common.{SameLengths, length, ◌⊎◌, IsUnstoredShort, GrowsByList, SparesStores, StoresList, LacksServers, IsPlanFault, spills}
+use Rattle.wtf_clients.proofs.Common.{TablesView, of_label}
 use Rattle.wtf_clients.proofs.Common.{metadata_now, AreSound, TablesBytes, any_byte, no_slice, has_copies, Asked, line_asked, lent_by, IsPlaced, Load, no_load}
 use Rattle.wtf_clients.proofs.Common.{load_of_job, AddsThisList, AddsBytes, IsUnspilled, HasToStore, HasCause, AreBased, AreFull, ServesLine, GrowsOnly, Plans}
-use Rattle.wtf_clients.proofs.Common.{◌≡◌, ℕ, ◌*◌, Bool, true, false, nat_lt, List, [], Option, None, Some, refl, sym, ap, ◌∙◌, subst, inl, inr, ⊎_elim, arith}
+use Rattle.wtf_clients.proofs.Common.{◌≡◌, ℕ, ◌*◌, ◌/◌, Bool, true, false, nat_lt, List, [], Option, None, Some, refl, sym, ap, ◌∙◌, subst, inl, inr, ⊎_elim}
+use Rattle.wtf_clients.proofs.Common.{arith}
 use Rattle.wtf_model.specs.declared.op.JobKind.TheVariants.{Spill}
 use Rattle.wtf_region.specs.Devs.{place_in}
+use Rattle.wtf_ring.specs.Points.{place_of}
 use Rattle.wtf_clients.proofs.{Lives.AreInside, Caused.plain_caused, Caused.plain_failed, Caused.has_failed, Caused.none_placed, Caused.fault_placed}
-use Rattle.wtf_clients.proofs.{Caused.none_added, JobTurning.plan_bytes, Lacking.memory_none, Lacking.no_lists, Lacking.region_caused, Lives.now_bytes}
+use Rattle.wtf_clients.proofs.{Caused.none_added, Caused.adds_once, Caused.write_adds, JobTurning.plan_bytes, Lacking.memory_none, Lacking.no_lists}
+use Rattle.wtf_clients.proofs.{Lacking.region_caused, Lives.now_bytes}
 use Rattle.wtf_clients.proofs.{Known.lent_to, Serving.later}
 
 -- what a map has of a region
@@ -45,6 +49,13 @@ module _ {S : Type 0} {kind : StoreKind S} (laws : KindLaws kind) (old mid new :
         (subst (λ r. IsOut kind (span (is_down r.now) (stores mid) (stores new)) k) goes.replicas out))) (h.out k lt);
   }
 
+-- a region's place is the same a while later
+place_same : {S : Type 0} {kind : StoreKind S} (old mid : Dev S) → GoesOn kind old mid [] → (t : Target)
+    → place_in mid t.inode (t.region * mid.settings.region) ≡ place_in old t.inode (t.region * old.settings.region)
+place_same old mid goes t =
+    ap (λ (d : Settings). place_of mid.ring.now.points t.inode (t.region * d.region / d.region)) goes.settings
+    ∙ ap (λ r. place_of r.now.points t.inode (t.region * old.settings.region / old.settings.region)) goes.ring
+
 -- one list was stored, behind reads
 list_added : {S : Type 0} {kind : StoreKind S} (old new : Dev S) (t : Target) (stored : List ListFact) (P : PlaceView → Type 0)
     → P (place_in old t.inode (t.region * old.settings.region)) → (w : StoresList kind old new t stored)
@@ -67,8 +78,11 @@ module _ {S : Type 0} {kind : StoreKind S} (laws : KindLaws kind) (old new : Dev
   abbrev now : Map
   now = metadata_now before.kv
 
+  abbrev asks : JobKind → Asked
+  asks k = line_asked kind (between old new) (lent_by old new) before (Event.Plan j k p r)
+
   abbrev asked : Asked
-  asked = line_asked kind (between old new) (lent_by old new) before (Event.Plan j jk p r)
+  asked = asks jk
 
   module _ (after : TablesView) (x : JobView) (none : of_label before.beside.jobs j ≡ None) (plans : Plans before after j jk p r x)
       (did : IsPlanned kind old new x.target (target_region now x.target) x.value) (own : MaybeBytes (inside_of kind new) any_slice x.value) where
@@ -94,8 +108,9 @@ module _ {S : Type 0} {kind : StoreKind S} (laws : KindLaws kind) (old new : Dev
         (cases_Bool (spills x.target.kind (end_of (target_region now x.target))))
 
     -- the list goes where the region's first byte does
-    goes_there : asked.goes_to (place_in old x.target.inode (x.target.region * old.settings.region))
-    goes_there =
+    goes_there : jk ≡ Spill → asked.goes_to (place_in old x.target.inode (x.target.region * old.settings.region))
+    goes_there is =
+        subst (λ (k : JobKind). (asks k).goes_to (place_in old x.target.inode (x.target.region * old.settings.region))) (sym is)
         (old, new, lent_to old new ring, (x.target.inode, plans.job.leads, ap (λ n. place_in old x.target.inode (n * old.settings.region)) plans.job.region))
 
     placed : (k : JobKind) → jk ≡ k → IsPlaced kind (between old new) old.settings (record asked { given = load_of_job k }) Answer.Planned
@@ -103,7 +118,7 @@ module _ {S : Type 0} {kind : StoreKind S} (laws : KindLaws kind) (old new : Dev
     placed Spill is = λ same. ⊎_elim
         (λ some. inr (
           λ empty. none_empty empty.0 empty.1 empty.2 (plans.job.kind_is ∙ is) some,
-          ((did.written some).own, list_added old new x.target did.stored asked.goes_to goes_there (did.written some)),
+          ((did.written some).own, list_added old new x.target did.stored asked.goes_to (goes_there is) (did.written some)),
         ))
         (λ empty. inl (
           (x.target.inode, plans.job.leads, ap (λ n. end_of (region_in_map now x.target.inode n)) (sym plans.job.region) ∙ ends (plans.job.kind_is ∙ is) empty),
@@ -142,6 +157,27 @@ module _ {S : Type 0} {kind : StoreKind S} (laws : KindLaws kind) (old new : Dev
       failed = plain_failed asked.fails Answer.Planned tt;
     }
 
+  -- ---- whatever comes of it, only the file to which a list is to go grows, by the list, once
+  grows_by : (k : JobKind) (i : InodeId) → LeadsTo now p i → SparesStores kind old new (job_target i r k) (region_in_map now i r)
+      → GrowsOnly kind (between old new) (asks k)
+  grows_by k i leads spares = by k spares.grows
+    where
+      by : (q : JobKind) → SameLengths kind (stores old) (stores new) ⊎ GrowsByList kind old new (job_target i r q) (region_in_map now i r)
+          → GrowsOnly kind (between old new) (asks q)
+      by q (inl same) = inl same
+      by Compact (inr list) = absurd (true≢false (sym list.spilled))
+      by Spill (inr list) = inr (
+        place_in old i (r * old.settings.region),
+        (old, new, lent_to old new ring, (i, leads, refl)),
+        length (encoded list.list),
+        (list.list, refl),
+        list.grows,
+      )
+
+  pub plan_grows : (i : InodeId) → LeadsTo now p i → SparesStores kind old new (job_target i r jk) (region_in_map now i r)
+      → GrowsOnly kind (between old new) asked
+  plan_grows = grows_by jk
+
   -- ---- one that failed, of the file to which the path leads
   module _ (i : InodeId) (leads : LeadsTo now p i) (why : Fault) (a : Answer) (is : fault_answer why ≡ Some a)
       (fails : IsPlanFault kind old new (job_target i r jk) (region_in_map now i r) why) where
@@ -176,7 +212,7 @@ module _ {S : Type 0} {kind : StoreKind S} (laws : KindLaws kind) (old new : Dev
         by : IsPlanFault kind old new (job_target i r jk) (region_in_map now i r) why → MayFailPlan old.settings.servers jk Answer.Planned a
         by (inl memory) = absurd (memory_none why a is memory)
         by (inr (inl lacks)) = read_may why is
-            (region_fault_known kind old new (region_in_map now i r) why lent (region_in (inside_of kind old) any_slice inside) lacks.cause)
+            (region_fault_known kind old new (region_in_map now i r) why lent (region_in (inside_of kind old) any_slice inside) lacks.cause.cause)
         by (inr (inr lacks)) = write_may why is lacks
 
     -- Why it failed. Each byte has as many copies as there are replicas where `full` holds, and O then holds of each base.
@@ -208,46 +244,37 @@ module _ {S : Type 0} {kind : StoreKind S} (laws : KindLaws kind) (old new : Dev
           by (inr (inl lacks)) = cause_more kind (between old new) old.settings (AreBased before) full (load_of_job jk) a
               (region_caused kind old new lent (AreBased before) full O why a is (region_in_map now i r) any_byte
               (region_in (inside_of kind old) any_slice inside) (λ Q h. region_in any_byte Q h)
-              (λ h. region_in (has_copies old.settings.replicas) O (copies h)) lacks.cause)
+              (λ h. region_in (has_copies old.settings.replicas) O (copies h)) lacks.cause.cause)
           by (inr (inr lacks)) = write_caused why is lacks
 
     -- the stores kept their lengths, unless the fault is one of writing
-    left : (k : JobKind) → jk ≡ k → (w : Fault) → fault_answer w ≡ Some a → IsPlanFault kind old new (job_target i r jk) (region_in_map now i r) w
-        → AddsBytes kind (between old new) old.settings (load_of_job k) a
-    left k same w e (inl memory) = absurd (memory_none w a e memory)
-    left k same w e (inr (inl lacks)) = all_added k a lacks.reads
+    left : SparesStores kind old new (job_target i r jk) (region_in_map now i r) → (w : Fault) → fault_answer w ≡ Some a
+        → IsPlanFault kind old new (job_target i r jk) (region_in_map now i r) w → AddsBytes kind (between old new) old.settings (load_of_job jk) a
+    left spares w e (inl memory) = absurd (memory_none w a e memory)
+    left spares w e (inr (inl lacks)) = all_added jk a lacks.reads
       where
         all_added : (q : JobKind) (b : Answer) → OnlyRead kind (between old new) → AddsBytes kind (between old new) old.settings (load_of_job q) b
         all_added Compact b reads = none_added kind (between old new) old.settings b reads.lengths
-        all_added Spill Answer.FaultWrite reads = tt
+        all_added Spill Answer.FaultWrite reads = inl reads.lengths
         all_added Spill Answer.Planned reads = inl reads.lengths
         all_added Spill b reads = reads.lengths
-    left k same Fault.Write e (inr (inr lacks)) =
-        subst (λ (b : Answer). AddsBytes kind (between old new) old.settings (load_of_job k) b) (let f : Answer.FaultWrite ≡ a = cc in f) (by k)
-      where
-        by : (q : JobKind) → AddsBytes kind (between old new) old.settings (load_of_job q) Answer.FaultWrite
-        by Compact = tt
-        by Spill = tt
-    left k same (Fault.Read s) e (inr (inr lacks)) = absurd lacks.out
-    left k same (Fault.Punch s) e (inr (inr lacks)) = absurd lacks.out
-    left k same (Fault.Damaged s) e (inr (inr lacks)) = absurd lacks.out
-    left k same Fault.Memory e (inr (inr lacks)) = absurd (memory_none Fault.Memory a e refl)
+    left spares Fault.Write e (inr (inr lacks)) =
+        subst (λ (b : Answer). AddsBytes kind (between old new) old.settings (load_of_job jk) b) (let f : Answer.FaultWrite ≡ a = cc in f)
+        (write_adds kind (between old new) old.settings (load_of_job jk)
+        (adds_once kind (between old new) asked.goes_to (load_of_job jk) (plan_grows i leads spares)))
+    left spares (Fault.Read s) e (inr (inr lacks)) = absurd lacks.out
+    left spares (Fault.Punch s) e (inr (inr lacks)) = absurd lacks.out
+    left spares (Fault.Damaged s) e (inr (inr lacks)) = absurd lacks.out
+    left spares Fault.Memory e (inr (inr lacks)) = absurd (memory_none Fault.Memory a e refl)
 
-    pub plan_fails : ServesLine kind (between old new) (lent_by old new) before before (Event.Plan j jk p r) a
-    plan_fails = record {
+    pub plan_fails : SparesStores kind old new (job_target i r jk) (region_in_map now i r)
+        → ServesLine kind (between old new) (lent_by old new) before before (Event.Plan j jk p r) a
+    plan_fails spares = record {
       inside = later laws old new goes lent before sound inside;
       bare = λ free h. h;
       full = λ free h. h;
-      adds = left jk refl why is fails;
+      adds = left spares why is fails;
       caused = plan_by (AreFull old.settings before) no_slice (λ h. h);
       placed = fault_placed kind (between old new) old.settings asked why a is;
       failed = has_failed asked.fails why a is (old, new, lent_to old new ring, record { inode = i; leads = leads; cause = fails });
     }
-
-  -- ---- whatever comes of it, only the file to which the list is to go may have grown
-  pub plan_grows : (i : InodeId) → LeadsTo now p i → SparesStores kind old new (job_target i r jk) (region_in_map now i r)
-      → GrowsOnly kind (between old new) asked
-  plan_grows i leads spares = elim (cases_Bool (spills jk (end_of (region_in_map now i r)))) [
-    | inl some ↦ inr (place_in old i (r * old.settings.region), (old, new, lent_to old new ring, (i, leads, refl)), spares.others)
-    | inr none ↦ inl (spares.lengths none)
-  ]

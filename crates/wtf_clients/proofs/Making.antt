@@ -9,7 +9,8 @@ use Rattle.wtf_clients.proofs.Common.{TryTurn, TablesStay, ListsAreTold, ReadsLi
 use Rattle.wtf_clients.proofs.Common.{nat_eq, List, [], ◌∷◌, ◌++◌, Option, None, Some, is_some, Result, Ok, IfOk, OnErr, IfSome, MatchOption, refl, sym, ap}
 use Rattle.wtf_clients.proofs.Common.{subst, ◌∙◌, true≢false, ◌⊎◌, inl, inr, Err, slice_get, arith}
 use Rattle.wtf_clients.specs.Turns.{Calls}
-use Rattle.wtf_clients.proofs.{Lists.sets_added, Lists.sets_same, Lists.sets_then, Lists.Writes, Known.lent_to, Known.knows, Known.starts_now, Staying.fault_is}
+use Rattle.wtf_clients.proofs.{Lists.sets_added, Lists.sets_same, Lists.sets_then, Lists.Writes, Known.lent_to, Known.knows, Known.knows_stops}
+use Rattle.wtf_clients.proofs.{Known.recalled_in, Known.starts_now, Staying.fault_is}
 use Rattle.wtf_clients.proofs.{Frames.sound_turned, Known.knows_redone, Known.knows_install, Known.starts_sound, Lacking.memory_none, Staying.same_stays}
 
 -- a match on an option that is known
@@ -197,9 +198,11 @@ module _ {S : Type 0} (kind : StoreKind S) (dev new : Dev S) (ring : IsRing dev.
         called = made.called;
         stored = (dev, new, lent_to dev new ring, made.stored);
         facts = made.lists;
-        recalls = made.recalls;
+        recalls = recalled_in kind dev new made.lists made.recalls;
         known = knows kind dev new did.dev made.lists made.known;
+        reads = made.reads;
         acts = made.acts;
+        holds = made.holds;
         fit = did.fit;
         sound = λ tells ops run. did.meaning free ops (starts_sound kind dev tells.0 old tells.1 new old.kv c x y ops there tells.2 run);
       })
@@ -229,7 +232,7 @@ module _ {S : Type 0} (kind : StoreKind S) (dev new : Dev S) (ring : IsRing dev.
     keeps = record { clients = sets; kv = refl; next_tx = refl; beside = refl };
     replayed = h;
     acts = knows_redone kind dev new goes old.kv x x.replayed (hand_of x) (hand_of y) acts.redoes;
-    recalls = acts.recalls;
+    recalls = recalled_in kind dev new acts.redoes.makes.lists acts.recalls;
     fit = fit;
     sound = m;
   }
@@ -273,21 +276,22 @@ module _ {S : Type 0} (kind : StoreKind S) (dev new : Dev S) (ring : IsRing dev.
     gone base maps pins = ends old after kv clients c x y sets taken next beside base maps pins is_kv unpinned
 
     -- by a step
-    ends_by_step : (b : Answer) → kv ≡ old.kv → x.ended ≡ false → y.ended ≡ true → IsStepped x y b
+    ends_by_step : (b : Answer) → kv ≡ old.kv → x.ended ≡ false → y.ended ≡ true → IsStepped x y b → ActsAgain (verb_of old.kv) b → GoesOn kind dev new []
         → (ListsAreTold z old (metadata_at old.kv x.at.base) → (ops : List (Op (List ℕ))) → LogStands z.size old.kv z.told x ops
         → IsTrueStep z.size (z.told, z.later) old.kv (x, y) ops b) → StepTurn z old after c x b
-    ends_by_step (Answer.Replayed i) same going over h m = absurd (true≢false (sym over ∙ ap (λ (q : TxnView). q.ended) h.is ∙ going))
-    ends_by_step (Aborted' i box b) same going over h m = record {
+    ends_by_step (Answer.Replayed i) same going over h acts goes m = absurd (true≢false (sym over ∙ ap (λ (q : TxnView). q.ended) h.is ∙ going))
+    ends_by_step (Aborted' i box b) same going over h acts goes m = record {
       index = h.index;
+      stops = knows_stops kind dev new goes old.kv x i b acts;
       ends = subst (λ s. Ends old after s c x) same
           (gone h.over.base (λ n le. ap (λ s. metadata_at s n) same) (λ n. ap (λ s. times_pinned s n) same));
       deviates = m;
     }
-    ends_by_step b same going over h m = absurd h
+    ends_by_step b same going over h acts goes m = absurd h
 
     steps_over : (a : Answer) → kv ≡ old.kv → x.ended ≡ false → StepOf (verb_of old.kv) (Ok a) → y.ended ≡ true → (r : Option Word) → step_refusal x ≡ r
         → MatchOption r (StepTurn z old after c x a) (λ w. Refuses old after c w a)
-    steps_over a same going did over None is = ends_by_step a same going over (did.stepped is) (step_means a did is)
+    steps_over a same going did over None is = ends_by_step a same going over (did.stepped is) (did.acts is) did.dev (step_means a did is)
     steps_over a same going did over (Some w) is =
         let all = refusal_of Fault x y dev new (step_refusal x) w a is did.refused in
         absurd (true≢false (sym over ∙ ap (λ (q : TxnView). q.ended) all.1 ∙ going))
@@ -312,7 +316,7 @@ module _ {S : Type 0} (kind : StoreKind S) (dev new : Dev S) (ring : IsRing dev.
         → (ListsAreTold z old (metadata_at old.kv x.at.base) → ListsAreTold z old (metadata_now old.kv)
         → (ops : List (Op (List ℕ))) → LogStands z.size old.kv z.told x ops → IsTrueEnd z.size (z.told, z.later) old.kv kv x ops a) → Finals z old after c x a
     commit_by (Answer.Committed n) over h i m = record { mid = kv; next = h.0; number = h.1; installs = i; ends = over; final = m }
-    commit_by (Aborted' k box b) over h i m = record { mid = kv; number = h; versions = i; ends = over; deviates = m }
+    commit_by (Aborted' k box b) over h i m = record { mid = kv; number = h; gave_up = i; ends = over; deviates = m }
     commit_by b over h i m = absurd h
 
     pub commit_turn : (a : Answer) → CommitOf (verb_of kv) (Ok a) → ClientTurn z old after c Verb.Commit a

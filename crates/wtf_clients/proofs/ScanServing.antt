@@ -1,6 +1,7 @@
 -- What pieces of scans, and collections, made of the bytes that the tables name, and of the stores.
 use Rattle.wtf_clients.proofs.Common.{and_from, and_parts, or_left, or_right, eq-eqb, le-leb, lt-ltb, list_any-append, Fault, EachFollows, Range, StoreKind}
-use Rattle.wtf_clients.proofs.Common.{KindLaws, each_on, Place, IsRing, is_down, IsPunchFault, IsOut, SameLengths, span, Answer, Event, any_slice, Dev, lies_in}
+use Rattle.wtf_clients.proofs.Common.{SameFrom, Settings, ◌≤◌, KindLaws, each_on, Place, IsRing, is_down, IsPunchFault, IsOut, SameLengths, span, Answer, Event}
+use Rattle.wtf_clients.proofs.Common.{any_slice, Dev, lies_in}
 use Rattle.wtf_clients.proofs.Common.{IsSoundDev, GoesOn, stores, between, is_inside, inside_stays, fault_answer, AreApart, FreesSome, IsCollectFault, lie_in}
 use Rattle.wtf_clients.proofs.Common.{GcView, is_garbage, BesideView, TablesView, of_label, any_byte, no_slice, has_copies, Frees, AddsBytes, HasCause}
 use Rattle.wtf_clients.proofs.Common.{LacksPunch, line_asked, lent_by, HasFailed, NamesTables, AreBased, AreFull, ServesLine, ◌≡◌, ℕ, ◌+◌, ◌<◌, Bool, true}
@@ -98,6 +99,13 @@ module _ {S : Type 0} {kind : StoreKind S} (laws : KindLaws kind) (old new : Dev
       subst (λ (b : Answer). ServesLine kind (between old new) (lent_by old new) before after (Event.Collect k) b) same
       (serves_by _ (each_on laws f.goes.each f.last.each) (Answer.FaultPunch j.0) lengths (server, subst (λ m. IsOut kind (between old new) m) (sym server) out)
       (Fault.Punch j, refl, (old, new, lent_to old new ring, lacks later (Fault.Punch j) f (server, out))))
+
+-- stores of no server of the settings are as they were, whatever failed
+pub collect_past : {S : Type 0} (kind : StoreKind S) (k : ℕ) (old new : Dev S) (g later : GcView) (why : Fault) → IsCollectFault kind k old new g later why
+    → SameFrom old.settings.servers (stores old) (stores new)
+collect_past kind k old new g later Fault.Memory f = f.0.past
+collect_past kind k old new g later e f =
+    λ i d high. f.last.past i d (subst (λ (st : Settings). st.servers ≤ i) (sym f.goes.settings) high) ∙ f.goes.past i d high
 
 -- a scan that runs goes on, whatever failed
 pub still_runs : {S : Type 0} (kind : StoreKind S) (k : ℕ) (old new : Dev S) (g later : GcView) (why : Fault) → IsCollectFault kind k old new g later why

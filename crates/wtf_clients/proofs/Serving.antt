@@ -280,7 +280,7 @@ module _ {S : Type 0} {kind : StoreKind S} (laws : KindLaws kind) (old new : Dev
     fault_serves ring o why a is call =
         let same = call.err (memory_none why a is) in
         set_serves (asked o) a (same_bytes any_byte no_slice same) (same_bytes (has_copies old.settings.replicas) no_slice same)
-        (fault_adds kind old new (seen before.kv x.at) x.session o why a is call.fault call.reads)
+        (fault_adds kind old new (seen before.kv x.at) x.session o why a is call.fault call.leaves call.reads)
         (call_by (AreFull old.settings before) no_slice (λ h. h) c x o why a there is (no_reads old (seen before.kv x.at)) call.fault)
         (fault_placed kind (between old new) old.settings (asked o) why a is)
         (has_failed (asked o).fails why a is (old, new, lent_to old new ring, (x, there, call.fault)))

@@ -20,6 +20,7 @@ use Rattle.wtf_model.specs.declared.event.Event.{Event}
 use Rattle.wtf_model.specs.declared.event.Event.TheVariants as event
 use Rattle.wtf_model.specs.declared.event.Verb.TheVariants as verb
 use Rattle.wtf_model.specs.declared.op.JobKind.{JobKind}
+use Rattle.wtf_model.specs.declared.op.JobKind.TheVariants.{Spill}
 use Rattle.wtf_model.specs.declared.op.Op.{Op}
 use Rattle.wtf_model.specs.declared.op.Op.TheVariants as op
 use Rattle.wtf_meta.specs.declared.session.Handle.{Handle}
@@ -76,10 +77,10 @@ IsCallPlace dev w s o place = ⊥
 abbrev pub OfClient : TablesView → ℕ → (TxnView → Type 0) → Type 0
 OfClient tables c P = (x : TxnView) × (of_client tables.clients c ≡ Some x) × P x
 
--- the same of a line: the list of a region goes where the region's first byte does
+-- the same of a line: the list of a region that a spill stores goes where the region's first byte does
 abbrev pub IsLinePlace : {S : Type 0} → Dev S → TablesView → Event → PlaceView → Type 0
 IsLinePlace dev tables (event.Client c (verb.Call o)) place = OfClient tables c (λ x. IsCallPlace dev (seen tables.kv x.at) x.session o place)
-IsLinePlace dev tables (event.Plan j kind p r) place =
+IsLinePlace dev tables (event.Plan j Spill p r) place =
     (i : InodeId) × LeadsTo (metadata_now tables.kv) p i × (place ≡ place_in dev i (r * dev.settings.region))
 IsLinePlace dev tables e place = ⊥
 

@@ -23,8 +23,8 @@ use Rattle.wtf_index.specs.Checks.{stands_at}
 use Rattle.wtf_region.specs.declared.dev.Dev.{Dev}
 use Rattle.wtf_region.specs.Apart.{are_apart}
 use Rattle.wtf_region.specs.Bases.{slices_of, bases_in}
-use Rattle.wtf_region.specs.Cached.{TrueBut, recalled}
-use Rattle.wtf_region.specs.Devs.{remembered}
+use Rattle.wtf_region.specs.Cached.{TrueBut}
+use Rattle.wtf_region.specs.Reads.{Recalls}
 use Rattle.wtf_rw.specs.Reads.{LacksRead}
 
 -- what is answered of a file with these bytes
@@ -54,10 +54,10 @@ IsNoFile w p = (i : InodeId) → stands_at w p ≢ Some (File i)
 abbrev pub dump_bases : ℕ → Map → List ℕ → Answer → List Slice
 dump_bases size w p a = dump_bases_of size w (stands_at w p) a
 
--- the lists of these slices were read, in order, and are remembered
-pub record ReadsBases {S : Type 0} (old new : Dev S) (slices : List Slice) : Type 0 where
+-- the lists of these slices were asked for, in order, and are remembered
+pub record ReadsBases {S : Type 0} (kind : StoreKind S) (old new : Dev S) (slices : List Slice) : Type 0 where
   pub facts : List ListFact
-  pub recalls : remembered new ≡ recalled facts (remembered old)
+  pub recalls : Recalls kind old new facts
   pub wants : slices_of facts ≡ slices
 
 -- The lists that are remembered are true, but where a byte of the slice lies in a range that was punched; and a map names no byte of these

@@ -2,7 +2,8 @@
 use Rattle.std.specs.Prelude.{◌≡◌, ◌≢◌, ◌⊎◌, ℕ, Option, None, Some, ⊤}
 use Rattle.wtf_dev.specs.Store.{StoreKind}
 use Rattle.wtf_ring.specs.Points.{PlaceView}
-use Rattle.wtf_replica.specs.Outs.{IsLeftDown, SameLengths, OtherFilesStay, SameSyncs}
+use Rattle.wtf_replica.specs.Copies.{GrowsOnce}
+use Rattle.wtf_replica.specs.Outs.{IsLeftDown, SameFrom, SameLengths, SameSyncs}
 use Rattle.wtf_replica.specs.Spans.{Span}
 use Rattle.wtf_model.specs.declared.event.Event.{Event}
 use Rattle.wtf_model.specs.declared.event.Event.TheVariants as event
@@ -12,6 +13,7 @@ use Rattle.wtf_replay.specs.Refusals.{call_refusal, step_refusal}
 use Rattle.wtf_replay.specs.Views.{TxnView}
 use Rattle.wtf_clients.specs.Asked.{Lending, Asked, line_asked}
 use Rattle.wtf_clients.specs.Dumped.{IsNoFile}
+use Rattle.wtf_clients.specs.Outcomes.{HasLength}
 use Rattle.wtf_clients.specs.Planning.{refusal_of}
 use Rattle.wtf_clients.specs.Views.{TablesView, of_client, of_label, metadata_now}
 
@@ -38,15 +40,16 @@ abbrev pub SyncsNone : {S : Type 0} → StoreKind S → Span S → Event → Typ
 SyncsNone kind t event.Save = ⊤
 SyncsNone kind t e = SameSyncs kind t.before t.after
 
--- no file of a store grew, or but the one to which the bytes were to go that the line stores
+-- no file of a store grew, or but the one of the place to which the bytes were to go that the line stores, by these bytes, once
 abbrev pub GrowsOnly : {S : Type 0} → StoreKind S → Span S → Asked → Type 0
 GrowsOnly kind t asked =
-    SameLengths kind t.before t.after ⊎ ((place : PlaceView) × asked.goes_to place × OtherFilesStay kind t.before t.after place.file)
+    SameLengths kind t.before t.after ⊎ ((place : PlaceView) × asked.goes_to place × (n : ℕ) × HasLength asked.given n × GrowsOnce kind t place n)
 
--- What a line leaves alone, also behind want of memory: each store of a server that is down; all syncs, but in a save; each file, but the one to
--- which its bytes were to go; and the lists that are remembered, where it reads none.
+-- What a line leaves alone, also behind want of memory: each store of a server that is down, and each of no server of the settings; all syncs,
+-- but in a save; each file, but the one to which its bytes were to go; and the lists that are remembered, where it reads none.
 pub record LeavesAlone {S : Type 0} (kind : StoreKind S) (t : Span S) (lent : Lending) (tables : TablesView) (e : Event) : Type 0 where
   pub down : IsLeftDown t
+  pub past : SameFrom lent.settings.servers t.before t.after
   pub syncs : SyncsNone kind t e
   pub files : GrowsOnly kind t (line_asked kind t lent tables e)
   pub lists : ReadsNoList lent.settings.region tables e → lent.left ≡ lent.lists

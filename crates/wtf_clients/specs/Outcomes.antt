@@ -11,7 +11,7 @@ use Rattle.wtf_overlay.specs.Spilled.{decoded, encoded}
 use Rattle.wtf_ring.specs.Points.{PlaceView}
 use Rattle.wtf_replica.specs.Spans.{Span, span}
 use Rattle.wtf_replica.specs.Outs.{IsOut, SameLengths}
-use Rattle.wtf_replica.specs.Copies.{IsFetched, IsStored}
+use Rattle.wtf_replica.specs.Copies.{IsFetched, IsStored, GrowsOnce}
 use Rattle.wtf_replica.specs.Inside.{size_in}
 use Rattle.wtf_replica.specs.Faults.{AreTooFew}
 use Rattle.wtf_meta.specs.Lists.{ListFact}
@@ -83,13 +83,24 @@ AddsOneList kind t settings P = (own : ListFact) × AddsThisList kind t settings
 abbrev pub AddsList : {S : Type 0} → StoreKind S → Span S → Settings → Type 0
 AddsList kind t settings = SameLengths kind t.before t.after ⊎ AddsOneList kind t settings (λ place. ⊤)
 
+-- so many bytes are those that a line is to store: those that it hands in, or those of some list of a region
+abbrev pub HasLength : Load → ℕ → Type 0
+HasLength (Data bytes) n = n ≡ length bytes
+HasLength RegionList n = (es : List Entry) × (n ≡ length (encoded es))
+HasLength (Frees k) n = ⊥
+
+-- no file of a store grew, or but that of one place: each server's that did not fail by nothing, or by the bytes that are to be stored, once
+abbrev pub AddsOnce : {S : Type 0} → StoreKind S → Span S → Load → Type 0
+AddsOnce kind t load = SameLengths kind t.before t.after ⊎ ((place : PlaceView) × (n : ℕ) × HasLength load n × GrowsOnce kind t place n)
+
 -- What a line adds: the bytes of a write or an append that answers `ok`, or those of the list that a spill makes, once on each server
--- that is to have a copy, and what a store that failed in it may have taken; one that fails may leave some; no other line adds a byte.
+-- that is to have a copy, and what a store that failed in it may have taken; one that fails may leave those, once on some servers; no other
+-- line adds a byte.
 abbrev pub AddsBytes : {S : Type 0} → StoreKind S → Span S → Settings → Load → Answer → Type 0
 AddsBytes kind t settings (Data (b ∷ bs)) answer.Okay =
     (place : PlaceView) × (slice : Slice) × IsStored kind t settings.replicas place (b ∷ bs) slice
 AddsBytes kind t settings RegionList answer.Planned = AddsList kind t settings
-AddsBytes kind t settings load answer.FaultWrite = ⊤
+AddsBytes kind t settings load answer.FaultWrite = AddsOnce kind t load
 AddsBytes kind t settings load a = SameLengths kind t.before t.after
 
 -- a plan to spill a region was answered `planned`

@@ -38,8 +38,8 @@ use Rattle.wtf_replay.specs.Causes.{fault_answer}
 use Rattle.wtf_replay.specs.Called.{IsCalled}
 use Rattle.wtf_replay.specs.Tried.{IsCommitted, IsRetried, IsFinal, KeepsMaps, KeepsVersions, KeepsPins, commit_from}
 use Rattle.wtf_replay.specs.Built.{data_len}
-use Rattle.wtf_replay.specs.Effects.{Scope, Acts, Redoes, sight_at}
-use Rattle.wtf_replay.specs.Installs.{Installs}
+use Rattle.wtf_replay.specs.Effects.{Scope, Acts, CallHolds, CallReads, Redoes, StopsAt, sight_at}
+use Rattle.wtf_replay.specs.Installs.{GaveUp, Installs}
 use Rattle.wtf_replay.specs.Replays.{IsReplayed, DeviatesOn}
 use Rattle.wtf_clients.specs.Views.{TablesView, of_client, metadata_now}
 use Rattle.wtf_clients.specs.Sounds.{Sets}
@@ -158,18 +158,19 @@ module _ (z : Seeing) where
   abbrev pub ListsAreTold : TablesView → Map → Type 0
   ListsAreTold old w = z.telling × AreTrue z.size z.told z.lists old × MapBytes (is_told z.told) (is_listed z.size z.told) w
 
-  -- lists that were read are those that their slices decode to, but where a range has a byte of one; if the lists that are remembered
-  -- are so, and the bytes of the slices were told
+  -- Lists that were read are those that their slices decode to, but where a range has a byte of one; if the lists that are remembered
+  -- are so, and the bytes of the slices were told. Those that were asked for were remembered or read, and are remembered.
   abbrev pub ReadsLists : Scope
   ReadsLists = record {
     size = z.size;
     known = λ facts. (ranges : List (ℕ × Range)) → z.lists ranges → ListSlices (is_told z.told) any_slice facts → ListSlices
         (are_apart ranges) any_slice facts
         → TellLists (lists_in z.size z.later) facts;
+    recalls = Recalled z;
   }
 
-  -- A call is logged with its answer, and with what came of its bytes; it recorded its own keys and made its own changes, by the lists that it
-  -- read, which are remembered.
+  -- A call is logged with its answer, and with what came of its bytes; it recorded its own keys, made its own changes and set what is in hand,
+  -- by the lists that it asks for, which are remembered.
   pub record Calls (old new : TablesView) (c : ℕ) (x : TxnView) (o : Op (List ℕ)) (a : Answer) : Type 0 where
     pub later_one : TxnView
     pub own : Option Slice
@@ -179,7 +180,9 @@ module _ (z : Seeing) where
     pub facts : List ListFact
     pub recalls : Recalled z facts
     pub known : ReadsLists.known facts
+    pub reads : CallReads (sight_at z.size old.kv x.tx x.replayed (hand_of x) facts) o a
     pub acts : Acts (sight_at z.size old.kv x.tx x.replayed (hand_of x) facts) (data_len o) own o a x.at later_one.at
+    pub holds : CallHolds (sight_at z.size old.kv x.tx x.replayed (hand_of x) facts) own o a x.session later_one.session
     pub fit : IsFit old.kv later_one
     pub sound : ListsAreTold old (metadata_at old.kv x.at.base) → (ops : List (Op (List ℕ))) → LogStands z.size old.kv z.told x ops
         → LogStands z.size old.kv z.later later_one (ops ++ o ∷ [])
@@ -190,20 +193,21 @@ module _ (z : Seeing) where
     pub may : (y : Caller) (t : Told) (S : Session) → y.size ≡ z.size → Stands y.size t y.tx y.calls (seen old.kv x.at) S.tree
         → Holds t (seen old.kv x.at) x.session S → MayFail z.servers o (call (cap_for y) S o).answer a
 
-  -- one more call was replayed, and answered what was shown; the lists that it read are remembered
+  -- one more call was replayed, and answered what was shown; the lists that it asked for are remembered
   pub record Replays (old new : TablesView) (c : ℕ) (x : TxnView) (i : ℕ) : Type 0 where
     pub later_one : TxnView
     pub keeps : SetsClientAlone old new c (Some later_one)
     pub replayed : IsReplayed x later_one i
     pub acts : Redoes ReadsLists old.kv x x.replayed (hand_of x) (hand_of later_one)
-    pub recalls : Recalled z acts.lists
+    pub recalls : Recalled z acts.makes.lists
     pub fit : IsFit old.kv later_one
     pub sound : ListsAreTold old (metadata_at old.kv x.at.base) → (ops : List (Op (List ℕ))) → LogStands z.size old.kv z.told x ops
         → LogStands z.size old.kv z.later later_one ops
 
-  -- the next call answered otherwise at the base, and the transaction has ended
+  -- the next call was made once more and answered otherwise at the base, and the transaction has ended
   pub record Aborts (old new : TablesView) (c : ℕ) (x : TxnView) (i : ℕ) (a : Answer) : Type 0 where
     pub index : i ≡ x.replayed + 1
+    pub stops : StopsAt ReadsLists old.kv x i a
     pub ends : Ends old new old.kv c x
     pub deviates : ListsAreTold old (metadata_at old.kv x.at.base) → (ops : List (Op (List ℕ))) → LogStands z.size old.kv z.told x ops
         → DeviatesOn (metadata_at old.kv x.at.base) z.size z.told x ops i a
@@ -214,7 +218,8 @@ module _ (z : Seeing) where
     pub may : (ops : List (Op (List ℕ))) → LogStands z.size old.kv z.told x ops → (t : Tree) → Stands z.size z.told x.tx 0 (metadata_at old.kv x.at.base) t
         → IsDone (slice_get (answers_of (cap_for (caller_at z.size x.tx 0)) t ops) x.replayed) × IsReadFault z.servers a
 
-  -- the calls have run on the map now, by the attempt or by a whole replay, and nothing but what they did was installed
+  -- the calls have run on the map now, by the attempt or by a whole replay, and nothing but what they did was installed; the lists that a
+  -- replay asked for are remembered
   pub record Finishes (old new : TablesView) (c : ℕ) (x : TxnView) (n : ℕ) : Type 0 where
     pub mid : Store Key Value
     pub next : n ≡ old.kv.number + 1
@@ -225,11 +230,11 @@ module _ (z : Seeing) where
         → LogStands z.size old.kv z.told x ops
         → IsFinal z.size z.later old.kv mid x ops n
 
-  -- run on the map now, the calls first answer otherwise than was shown at call i, and there a
+  -- made once more on the map now, the calls first answered otherwise than was shown at call i, and there a
   pub record GivesUp (old new : TablesView) (c : ℕ) (x : TxnView) (i : ℕ) (a : Answer) : Type 0 where
     pub mid : Store Key Value
     pub number : mid.number ≡ old.kv.number
-    pub versions : KeepsVersions old.kv mid
+    pub gave_up : GaveUp ReadsLists old.kv mid (commit_from old.kv x) i a
     pub ends : Ends old new mid c x
     pub deviates : ListsAreTold old (metadata_at old.kv x.at.base) → ListsAreTold old (metadata_now old.kv) → (ops : List (Op (List ℕ)))
         → LogStands z.size old.kv z.told x ops

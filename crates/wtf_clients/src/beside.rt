@@ -303,7 +303,7 @@ impl Beside {
 
     /// Frees what is garbage of server `k`, and answers how many bytes that are.
     pub(crate) fn free<S: SliceStore>(&mut self, dev: &mut Dev<'_, S>, k: u8) -> Result<u64, Fault>
-        requires server { k < length (stores dev.old) }
+        requires server { k < dev.old.settings.servers }
         requires sound { IsSoundDev S.kind dev.old }
         requires marks { (f : ℕ) →
             mark_of self.old.gc.older k f ≤ size_in S.kind (stores dev.old) k f }

@@ -45,7 +45,7 @@ pub(crate) fn dump_now<S: SliceStore>(
     ensures versions { KeepsVersions kv.old kv.new }
     ensures pins { KeepsPins kv.old kv.new }
     ensures answered { IfOk result IsDumpAnswer }
-    ensures read { IfOk result (λ a. ReadsBases dev.old dev.new
+    ensures read { IfOk result (λ a. ReadsBases S.kind dev.old dev.new
         (dump_bases dev.old.settings.region (metadata_at kv.old kv.old.number) p.now a)) }
     ensures lists { IsNoFile (metadata_at kv.old kv.old.number) p.now →
         remembered dev.new ≡ remembered dev.old }
@@ -78,7 +78,7 @@ fn dump_at<S: SliceStore>(
     ensures fault { IfErr result (λ why. (why ≡ Fault.Memory) ⊎ LacksDump S.kind dev.old dev.new
         (metadata_at kv.now number) p.now why) }
     ensures answered { IfOk result IsDumpAnswer }
-    ensures read { IfOk result (λ a. ReadsBases dev.old dev.new
+    ensures read { IfOk result (λ a. ReadsBases S.kind dev.old dev.new
         (dump_bases dev.old.settings.region (metadata_at kv.now number) p.now a)) }
     ensures lists { IsNoFile (metadata_at kv.now number) p.now →
         remembered dev.new ≡ remembered dev.old }
@@ -121,7 +121,7 @@ fn dump_file<S: SliceStore>(
     ensures fault { IfErr result (λ why. (why ≡ Fault.Memory) ⊎ LacksFile S.kind dev.old dev.new
         (file_of inode (seen kv.now at.old)) why) }
     ensures answered { IfOk result IsDumpAnswer }
-    ensures read { IfOk result (λ a. ReadsBases dev.old dev.new
+    ensures read { IfOk result (λ a. ReadsBases S.kind dev.old dev.new
         (file_bases dev.old.settings.region (file_of inode (seen kv.now at.old)) a)) }
     ensures reads { OnlyRead S.kind (between dev.old dev.new) }
     ensures dev { GoesOn S.kind dev.old dev.new [] }

@@ -17,6 +17,11 @@
 //! the stores behind each line; and the tables stand for the machine's where they did before and the stores
 //! tell.
 //!
+//! A line leaves alone what it does not need (`specs/Leaving`): stores of servers that are down and of no server
+//! of the settings, all syncs but in a save, and all files but the one in which its bytes were to be stored, which
+//! grows by these once at most. Each list of a region that it asked for was remembered or was read, and is
+//! remembered (`Recalled`), behind an abort too.
+//!
 //! No byte that was freed, or is garbage, is named (`specs/Safe`, `IsSafe`): by no map that can be read, no
 //! open transaction and no job. So a scan waits for the transactions and jobs that were open when the last one
 //! began. `tidy` drops versions that no one sees. Want of memory leaves what is seen of the tables, but that a

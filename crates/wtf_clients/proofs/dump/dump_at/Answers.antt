@@ -69,19 +69,21 @@ returns-in-Err-dump_file-clause-fault g c =
     ]
 
 pub returns-in_default-clause-read : goal.returns-in_default-clause-read
-returns-in_default-clause-read g c = no_bases c.args.dev.now (metadata_at c.args.kv.now c.args.number) c.args.p.now NoEnt
+returns-in_default-clause-read g c = no_bases g.S.SliceStore.kind c.args.dev.now (metadata_at c.args.kv.now c.args.number) c.args.p.now NoEnt
 
 pub returns-in-Folder-clause-read : goal.returns-in-Folder-clause-read
-returns-in-Folder-clause-read g c = no_bases c.args.dev.now (metadata_at c.args.kv.now c.args.number) c.args.p.now IsDir
+returns-in-Folder-clause-read g c = no_bases g.S.SliceStore.kind c.args.dev.now (metadata_at c.args.kv.now c.args.number) c.args.p.now IsDir
 
 pub returns-in-Ok-dump_file-clause-read : goal.returns-in-Ok-dump_file-clause-read
 returns-in-Ok-dump_file-clause-read g c =
     let here = (goal.at.returns-in-Ok-dump_file-clause-read g c).After-dump_file in
+    let kind = g.S.SliceStore.kind in
     let dev = c.args.dev.now in
+    let new = c.dump_file.new.dev in
     let size = dev.settings.region in
     let a = c.in-Ok-dump_file.answer in
-    subst (λ o. ReadsBases dev c.dump_file.new.dev (dump_bases_of size (metadata_at c.args.kv.now c.args.number) o a)) (sym (file_there g here))
-    (subst (λ (v : Map). ReadsBases dev c.dump_file.new.dev (file_bases size (file_of c.in-File.inode v) a)) (map_same g here) c.in-Ok-dump_file.ensures.read)
+    subst (λ o. ReadsBases kind dev new (dump_bases_of size (metadata_at c.args.kv.now c.args.number) o a)) (sym (file_there g here))
+    (subst (λ (v : Map). ReadsBases kind dev new (file_bases size (file_of c.in-File.inode v) a)) (map_same g here) c.in-Ok-dump_file.ensures.read)
 
 pub returns-in-Ok-dump_file-clause-lists : goal.returns-in-Ok-dump_file-clause-lists
 returns-in-Ok-dump_file-clause-lists g c =

@@ -1,7 +1,8 @@
 use Rattle.wtf_clients.proofs.Common.{Settings, pieces_origin, Piece, Answer, MAX_REGIONS, TellLists, PiecesBytes, FileBytes, any_slice, is_told, is_listed}
 use Rattle.wtf_clients.proofs.Common.{lists_in, Map, seen, file_len, file_origin, file_of, length_keys, file_bytes, TellLists-before, file_bytes_stay}
-use Rattle.wtf_clients.proofs.Common.{are_apart, stores, told_in, inside_of, is_down_in, between, IsFileRead, LacksRegion, Shown, IsShowFault, pieces_in}
-use Rattle.wtf_clients.proofs.Common.{AreReadable, bases_in, readable_from, pieces_inside, file_read_later, still_seen, shown_since, goes_on, tells_on, ◌≡◌, ℕ}
+use Rattle.wtf_clients.proofs.Common.{are_apart, told_in, inside_of, between, IsFileRead, LacksRegion, Shown, IsShowFault, pieces_in}
+use Rattle.wtf_clients.proofs.Common.{AreReadable, bases_in, readable_from, pieces_inside, file_read_later, recalls_later, recalls_same, still_seen}
+use Rattle.wtf_clients.proofs.Common.{shown_since, goes_on, tells_on, ◌≡◌, ℕ}
 use Rattle.wtf_clients.proofs.Common.{◌+◌, ◌*◌, min, List, [], refl, sym, ap, ◌∙◌, subst, arith, inl, inr}
 use Rattle.wtf_clients.proofs.Dumping.{plans_whole, shows_file}
 use Rattle.wtf_clients.proofs.dump.dump_file.Goals as goal
@@ -53,8 +54,7 @@ show-requires-clause-readable g c =
     subst (λ (w : Map). FileBytes (inside_of kind dev) any_slice (file_of i w)) (sym same) (file_bytes (inside_of kind dev) any_slice i b c.requires.inside) in
     let inside : PiecesBytes (inside_of kind mid) ps =
     pieces_inside g.met.S.SliceStore.laws c.requires.sound c.in-Ok-pieces.ensures.dev (file_of i u) file 0 c.min-n.result ps c.in-Ok-pieces.ensures.read in
-    subst (λ (qs : List Piece). AreReadable kind (is_down_in mid) (stores mid) qs) (sym c.as_slice.ensures.value)
-    (readable_from kind (is_down_in mid) (stores mid) mid.settings ps c.in-Ok-pieces.ensures.dev.sound.shelf inside)
+    subst (λ (qs : List Piece). AreReadable kind mid qs) (sym c.as_slice.ensures.value) (readable_from kind mid ps c.in-Ok-pieces.ensures.dev.sound inside)
 
 pub returns-in-Err-show-clause-fault : goal.returns-in-Err-show-clause-fault
 returns-in-Err-show-clause-fault g c =
@@ -138,7 +138,8 @@ returns-clause-shows g c cache map bytes body =
     (shown_since laws first.each k (λ j. pieces_origin ps (0 + j)) [] out shown)
 
 pub returns-then-len-gt-MAX_DUMPED-clause-read : goal.returns-then-len-gt-MAX_DUMPED-clause-read
-returns-then-len-gt-MAX_DUMPED-clause-read g c = record { facts = []; recalls = refl; wants = refl }
+returns-then-len-gt-MAX_DUMPED-clause-read g c =
+    record { facts = []; recalls = recalls_same g.S.SliceStore.kind c.args.dev.now c.args.dev.now refl; wants = refl }
 
 pub returns-clause-read : goal.returns-clause-read
 returns-clause-read g c =
@@ -153,6 +154,6 @@ returns-clause-read g c =
     ∙ ap (min (file_len z (file_of i b))) c.cap.ensures in
     record {
       facts = read.facts;
-      recalls = c.in-Ok-show.ensures.lists ∙ read.recalls;
+      recalls = recalls_later g.met.S.SliceStore.laws c.in-Ok-pieces.ensures.dev c.in-Ok-show.ensures.dev read.facts read.recalls c.in-Ok-show.ensures.lists;
       wants = read.wants ∙ ap (λ (w : Map). bases_in z (file_of i w) 0 k) same ∙ ap (bases_in z (file_of i b) 0) count;
     }

@@ -24,7 +24,8 @@ returns-clause-fault g c =
 pub returns-clause-read : goal.returns-clause-read
 returns-clause-read g c =
     let dev = c.args.dev.now in
-    subst (λ (w : Map). IfOk c.dump_at-shown.result (λ a. ReadsBases dev c.dump_at-shown.new.dev (dump_bases dev.settings.region w c.args.p.now a)))
+    let new = c.dump_at-shown.new.dev in
+    subst (λ (w : Map). IfOk c.dump_at-shown.result (λ a. ReadsBases g.S.SliceStore.kind dev new (dump_bases dev.settings.region w c.args.p.now a)))
     (same g (goal.at.returns-clause-read g c).After-dump_at-shown) c.dump_at-shown.ensures.read
 
 pub returns-clause-lists : goal.returns-clause-lists

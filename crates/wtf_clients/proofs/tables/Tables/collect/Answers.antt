@@ -1,7 +1,7 @@
-use Rattle.wtf_clients.proofs.Common.{is_down, Answer, Event, stores, remembered, between, fault_answer, lent_by, LeavesAlone, ServesLine, BesideView}
+use Rattle.wtf_clients.proofs.Common.{SameFrom, is_down, Answer, Event, stores, remembered, between, fault_answer, lent_by, LeavesAlone, ServesLine, BesideView}
 use Rattle.wtf_clients.proofs.Common.{TablesView, ◌≡◌, Some, IfOk, inl, refl, sym, ap, subst}
 use Rattle.wtf_clients.proofs.{Lives.AreInside, Leaving.leaves_none, Leaving.leaves_by, Making.if_ok, ScanFrames.free_sound, ScanServing.collected}
-use Rattle.wtf_clients.proofs.{ScanServing.collect_failed, ScanServing.still_runs, Lives.tables_of}
+use Rattle.wtf_clients.proofs.{ScanServing.collect_failed, ScanServing.collect_past, ScanServing.still_runs, Lives.tables_of}
 use Rattle.wtf_clients.proofs.tables.Tables.collect.Given.{Over}
 use Rattle.wtf_clients.proofs.tables.Tables.collect.Goals as goal
 use Rattle.wtf_clients.proofs.tables.Tables.collect.Goals.{After-free}
@@ -14,17 +14,19 @@ inside : (g : Over) (c : After-free g) → AreInside g.S.SliceStore.kind c.args.
 inside g c = subst (AreInside g.S.SliceStore.kind c.args.dev.now) (sym c.self.view_is) c.requires.inside
 
 -- what it leaves, whatever comes of it
-left : (g : Over) (c : After-free g)
+left : (g : Over) (c : After-free g) → SameFrom c.args.dev.now.settings.servers (stores c.args.dev.now) (stores c.free.new.dev)
     → LeavesAlone g.S.SliceStore.kind (between c.args.dev.now c.free.new.dev) (lent_by c.args.dev.now c.free.new.dev) c.args.self.now (Event.Collect c.args.k)
-left g c =
-    leaves_by g.S.SliceStore.kind c.args.dev.now c.free.new.dev c.args.self.now (Event.Collect c.args.k) c.free.ensures.down c.free.ensures.syncs
+left g c past =
+    leaves_by g.S.SliceStore.kind c.args.dev.now c.free.new.dev c.args.self.now (Event.Collect c.args.k) c.free.ensures.down past c.free.ensures.syncs
     (inl c.free.ensures.lengths) (λ none. c.free.ensures.lists)
 
 pub returns-in-Ok-clause-leaves : goal.returns-in-Ok-clause-leaves
-returns-in-Ok-clause-leaves g c = left g (goal.at.returns-in-Ok-clause-leaves g c).After-free
+returns-in-Ok-clause-leaves g c = left g (goal.at.returns-in-Ok-clause-leaves g c).After-free c.in-Ok.ensures.frees.goes.past
 
 pub returns-in-Err-clause-leaves : goal.returns-in-Err-clause-leaves
-returns-in-Err-clause-leaves g c = left g (goal.at.returns-in-Err-clause-leaves g c).After-free
+returns-in-Err-clause-leaves g c =
+    left g (goal.at.returns-in-Err-clause-leaves g c).After-free
+    (collect_past g.S.SliceStore.kind c.args.k c.args.dev.now c.free.new.dev c.self.inside.beside.gc c.free.new.self.gc c.in-Err.why c.in-Err.ensures.fault)
 
 pub returns-then-k-servers-clause-leaves : goal.returns-then-k-servers-clause-leaves
 returns-then-k-servers-clause-leaves g c =

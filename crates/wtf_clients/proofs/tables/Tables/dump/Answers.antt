@@ -4,7 +4,8 @@ use Rattle.wtf_clients.proofs.Common.{fault_answer, KeepsMaps, KeepsVersions, Ke
 use Rattle.wtf_clients.proofs.Common.{LineOf, any_byte, no_slice, has_copies, no_load, AreBased, AreFull, AreSound, IsAlike, TablesStay, DumpReads}
 use Rattle.wtf_clients.proofs.Common.{metadata_now, ◌≡◌, ◌⊎◌, ℕ, [], List, Some, Result, Ok, IfOk, inl, inr, refl, ap, ◌∙◌, arith}
 use Rattle.wtf_clients.proofs.{Lives.AreInside, Lives.now_bytes, Lives.tables_of, Lining.line_of, Caused.has_failed, Dumping.true_now, Dumping.dump_may}
-use Rattle.wtf_clients.proofs.{Dumping.dump_plain, Dumping.dump_caused, Known.lent_to, Lacking.no_lists, Leaving.leaves_read, Lining.answered_line}
+use Rattle.wtf_clients.proofs.{Dumping.dump_plain, Dumping.dump_caused, Known.lent_to, Known.recalled_in, Lacking.no_lists, Leaving.leaves_read}
+use Rattle.wtf_clients.proofs.{Lining.answered_line}
 use Rattle.wtf_clients.proofs.{Lining.failed_line, Lists.sets_same, Serving.read_serves, Serving.read_failed, Serving.stays_names, Serving.past_memory}
 use Rattle.wtf_clients.proofs.{Staying.stays_sound, ToldServing.plain_told, ToldServing.stays_told, ToldServing.dump_why}
 use Rattle.wtf_clients.proofs.tables.Tables.dump.Given.{Over}
@@ -66,7 +67,7 @@ module _ {S : Type 0} {kind : StoreKind S} (laws : KindLaws kind) (dev new : Dev
             (stays_names laws dev new goes lent old sound inside after 0 (dump_stays 0)) reads (dump_plain a answered);
         told = λ tells. plain_told laws dev new goes lent old sound inside tells after 0 a (dump_stays 0) (dump_plain a answered);
       })
-      (leaves_read kind dev new old (Event.Dump p) reads lists) goes
+      (leaves_read kind dev new old (Event.Dump p) reads goes lists) goes
 
   dump_lost : (why : Fault) (r : Result Answer OutOfMemory) → IfOk r (λ a. fault_answer why ≡ Some a)
       → (why ≡ Fault.Memory) ⊎ LacksDump kind dev new (metadata_now old.kv) p why → LineOf dumping (Event.Dump p) r
@@ -86,7 +87,7 @@ module _ {S : Type 0} {kind : StoreKind S} (laws : KindLaws kind) (dev new : Dev
         told = λ tells. stays_told laws dev new goes lent old sound inside tells after 0 no_load a (dump_stays 0)
             (dump_why laws dev new goes lent old sound inside tells p why a same lacks);
       })
-      (leaves_read kind dev new old (Event.Dump p) reads lists) dump_alike goes
+      (leaves_read kind dev new old (Event.Dump p) reads goes lists) dump_alike goes
 
 -- the tables before it
 abbrev old : (g : Over) → After-dump_now g → TablesView
@@ -108,7 +109,7 @@ returns-in-Ok g c =
     line_of c.self.view_is
     (dump_line g.met.S.SliceStore.laws c.args.dev.now c.dump_now.new.dev c.requires.dev c.requires.ring (old g at) c.self.invariant (inside g at) c.args.p.now
     c.dump_now.new.kv did.number did.maps did.versions did.pins did.reads did.dev did.lists c.in-Ok.answer did.shows did.answered
-    (record { facts = did.read.facts; recalls = did.read.recalls; wants = did.read.wants }))
+    (record { facts = did.read.facts; recalls = recalled_in _ c.args.dev.now c.dump_now.new.dev did.read.facts did.read.recalls; wants = did.read.wants }))
 
 pub invariant_of-self : goal.invariant_of-self
 invariant_of-self g c =

@@ -1,4 +1,5 @@
-use Rattle.wtf_clients.proofs.Common.{is_down, OnlyRead, DoesParts, Answer, Event, stores, remembered, between, fault_answer, TablesView, IsPruned, DoesTurn}
+use Rattle.wtf_clients.proofs.Common.{[], GoesOn, is_down, OnlyRead, DoesParts, Answer, Event, stores, remembered, between, fault_answer, TablesView, IsPruned}
+use Rattle.wtf_clients.proofs.Common.{DoesTurn}
 use Rattle.wtf_clients.proofs.Common.{lent_by, ServesLine, TellsTables, ReadsTold, LeavesAlone, ◌≡◌, ◌∙◌, ℕ, true, Some, IfOk, is_some, true≢false, refl, sym}
 use Rattle.wtf_clients.proofs.Common.{ap, subst}
 use Rattle.wtf_clients.proofs.{Lives.AreInside, Making.if_ok, PieceServing.held_enough, PieceServing.does_names, PieceServing.pruned_sound}
@@ -27,13 +28,13 @@ do_parts-done-requires-clause-inside g c = (subst (AreInside g.S.SliceStore.kind
 
 -- parts leave the stores, and the lists where there is none to read
 leaves : (g : Over) (c : After-do_parts-done g) → is_some c.self.inside.beside.gc.running ≡ true
-    → OnlyRead g.S.SliceStore.kind (between c.args.dev.now c.do_parts-done.new.dev)
+    → OnlyRead g.S.SliceStore.kind (between c.args.dev.now c.do_parts-done.new.dev) → GoesOn g.S.SliceStore.kind c.args.dev.now c.do_parts-done.new.dev []
     → LeavesAlone g.S.SliceStore.kind (between c.args.dev.now c.do_parts-done.new.dev) (lent_by c.args.dev.now c.do_parts-done.new.dev) c.args.self.now
     (Event.Piece c.args.parts)
-leaves g c runs reads =
+leaves g c runs reads goes =
     subst (λ (t : TablesView). LeavesAlone g.S.SliceStore.kind (between c.args.dev.now c.do_parts-done.new.dev)
     (lent_by c.args.dev.now c.do_parts-done.new.dev) t (Event.Piece c.args.parts)) c.self.view_is
-    (leaves_read g.S.SliceStore.kind c.args.dev.now c.do_parts-done.new.dev (old g c) (Event.Piece c.args.parts) reads
+    (leaves_read g.S.SliceStore.kind c.args.dev.now c.do_parts-done.new.dev (old g c) (Event.Piece c.args.parts) reads goes
     (λ none. absurd (true≢false (sym runs ∙ ap is_some none))))
 
 -- they were done
@@ -59,6 +60,7 @@ returns-then-left-gt0-clause-serves g c =
 pub returns-then-left-gt0-clause-leaves : goal.returns-then-left-gt0-clause-leaves
 returns-then-left-gt0-clause-leaves g c =
     leaves g (goal.at.returns-then-left-gt0-clause-leaves g c).After-do_parts-done (sym c.scans.ensures ∙ c.if-not-scans.false) c.in-Ok.ensures.reads
+    c.in-Ok.ensures.dev
 
 pub invariant_of-self : goal.invariant_of-self
 invariant_of-self g c =
@@ -80,6 +82,7 @@ returns-in-Ok-clause-serves g c =
 pub returns-in-Ok-clause-leaves : goal.returns-in-Ok-clause-leaves
 returns-in-Ok-clause-leaves g c =
     leaves g (goal.at.returns-in-Ok-clause-leaves g c).After-do_parts-done (sym c.scans.ensures ∙ c.if-not-scans.false) c.in-Ok.ensures.reads
+    c.in-Ok.ensures.dev
 
 pub invariant_of-self-in-Ok : goal.invariant_of-self-in-Ok
 invariant_of-self-in-Ok g c =
@@ -123,6 +126,7 @@ returns-in-Err-clause-unread g c =
 pub returns-in-Err-clause-leaves : goal.returns-in-Err-clause-leaves
 returns-in-Err-clause-leaves g c =
     leaves g (goal.at.returns-in-Err-clause-leaves g c).After-do_parts-done (sym c.scans.ensures ∙ c.if-not-scans.false) c.in-Err.ensures.reads
+    c.in-Err.ensures.dev
 
 pub returns-then-not-scans-clause-leaves : goal.returns-then-not-scans-clause-leaves
 returns-then-not-scans-clause-leaves g c =

@@ -24,7 +24,7 @@ module _ {S : Type 0} {kind : StoreKind S} (laws : KindLaws kind) (dev new : Dev
   plan_leaves : (i : InodeId) → LeadsTo (metadata_now old.kv) p i → SparesStores kind dev new (job_target i r jk) (region_in_map (metadata_now old.kv) i r)
       → LeavesAlone kind (between dev new) (lent_by dev new) old e
   plan_leaves i leads spares =
-      leaves_by kind dev new old e spares.down spares.syncs (plan_grows laws dev new goes lent old sound inside ring j jk p r i leads spares)
+      leaves_by kind dev new old e spares.down goes.past spares.syncs (plan_grows laws dev new goes lent old sound inside ring j jk p r i leads spares)
       (λ refused. elim refused [ inl used ↦ absurd (used none) | inr word ↦ absurd (word free) ])
 
   plan_line : (after : TablesView) (x : JobView) → KeepsOthers old after j (Some x) → was_job after.beside j ≡ false
@@ -53,7 +53,7 @@ module _ {S : Type 0} {kind : StoreKind S} (laws : KindLaws kind) (dev new : Dev
       (λ a same. record {
         turn = plan_failed kind dev new ring old old j jk p r why a same none refl free
             (plan_may laws dev new goes lent old sound inside ring j jk p r i leads why a same fails);
-        serves = plan_fails laws dev new goes lent old sound inside ring j jk p r i leads why a same fails;
+        serves = plan_fails laws dev new goes lent old sound inside ring j jk p r i leads why a same fails spares;
         told = λ tells. plan_failed_told laws dev new goes lent old sound inside tells j jk p r ring i leads why a same fails;
       })
       (plan_leaves i leads spares) (alike_same old) goes

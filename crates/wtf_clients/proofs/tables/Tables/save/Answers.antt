@@ -1,7 +1,12 @@
-use Rattle.wtf_clients.proofs.Common.{Settings, with_image, only_image, Saves, Rose, is_down, during, Answer, Event, SomeOut, AreUp, ◌≡◌, ◌<◌, ℕ, List, [], ◌∷◌}
+use Rattle.wtf_clients.proofs.Common.{SameFrom, Settings, with_image, only_image, Saves, Rose, is_down, during, Answer, Event, SomeOut, AreUp, ◌≡◌, ◌<◌, ℕ}
+use Rattle.wtf_clients.proofs.Common.{List, [], ◌∷◌}
 use Rattle.wtf_clients.proofs.Common.{Some, sym, ap, ◌∙◌, subst, inl, inr}
 use Rattle.wtf_clients.proofs.{SaveServing.save_serves, Images.kept_enough, Leaving.leaves_none, Leaving.save_leaves, Pinning.saves_then, Pinning.saves_enough}
 use Rattle.wtf_clients.proofs.tables.Tables.save.Goals as goal
+
+-- stores of no server of the settings
+past_by : {S : Type 0} (old new : List S) (st settings : Settings) → st ≡ settings → SameFrom st.servers old new → SameFrom settings.servers old new
+past_by old new st settings is h = subst (λ (s : Settings). SameFrom s.servers old new) is h
 
 pub returns-in-Err-sync_all-clause-turn : goal.returns-in-Err-sync_all-clause-turn
 returns-in-Err-sync_all-clause-turn g c =
@@ -103,14 +108,17 @@ returns-in-Err-keep_image-clause-leaves g c = λ lists.
 pub returns-in-Err-sync_all-clause-leaves : goal.returns-in-Err-sync_all-clause-leaves
 returns-in-Err-sync_all-clause-leaves g c = λ lists.
     save_leaves g.S.SliceStore.kind (is_down c.args.replicas.now) c.args.shelf.now c.sync_all.new.shelf c.args.settings lists c.args.self.now
-    c.sync_all.ensures.down c.sync_all.ensures.lengths
+    c.sync_all.ensures.down (past_by c.args.shelf.now c.sync_all.new.shelf _ c.args.settings c.requires.settings c.sync_all.ensures.past)
+    c.sync_all.ensures.lengths
 
 pub returns-in-Err-replace-clause-leaves : goal.returns-in-Err-replace-clause-leaves
 returns-in-Err-replace-clause-leaves g c = λ lists.
     save_leaves g.S.SliceStore.kind (is_down c.args.replicas.now) c.args.shelf.now c.sync_all.new.shelf c.args.settings lists c.args.self.now
-    c.sync_all.ensures.down c.sync_all.ensures.lengths
+    c.sync_all.ensures.down (past_by c.args.shelf.now c.sync_all.new.shelf _ c.args.settings c.requires.settings c.sync_all.ensures.past)
+    c.sync_all.ensures.lengths
 
 pub returns-clause-leaves : goal.returns-clause-leaves
 returns-clause-leaves g c = λ lists.
     save_leaves g.S.SliceStore.kind (is_down c.args.replicas.now) c.args.shelf.now c.sync_all.new.shelf c.args.settings lists c.args.self.now
-    c.sync_all.ensures.down c.sync_all.ensures.lengths
+    c.sync_all.ensures.down (past_by c.args.shelf.now c.sync_all.new.shelf _ c.args.settings c.requires.settings c.sync_all.ensures.past)
+    c.sync_all.ensures.lengths
