@@ -362,7 +362,7 @@ finals_stand z old new m c x t (Answer.Committed n) sound region count small st 
 finals_stand z old new m c x t (Aborted' i box a) sound region count small st on here there telling turn = (
   give_up_may z old new c x i a m t turn region (txn_in z.size z.told old m c x t st here there) telling,
   leaves_stand old new turn.mid c x sound here (give_up z old new c x i a turn) turn.ends
-      z.size z.told z.later m st on turn.number turn.versions,
+      z.size z.told z.later m st on turn.number turn.gave_up.versions,
 )
 finals_stand z old new m c x t a sound region count small st on here there telling turn =
     let txn = txn_in z.size z.told old m c x t st here there in (

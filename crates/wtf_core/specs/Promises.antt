@@ -181,8 +181,9 @@ pub record CoreFails {S : Type 0} (kind : StoreKind S) (k : KeeperSpan) (old new
   pub unsynced : SameSyncs kind old.shelf new.shelf
   pub untouched : k.untouched
 
--- Whatever comes of a line: what stays of the core; no store of a server that is down was touched, only a save synced, no file of a store grew but the
--- one to which bytes of the line were to go, and a line that reads no list leaves those that are remembered.
+-- Whatever comes of a line: what stays of the core; no store of a server that is down was touched, and none that the settings do not have; only a save
+-- synced, no file of a store grew but the one to which bytes of the line were to go, by them and once, and a line that reads no list leaves those that
+-- are remembered.
 pub record CoreStays {S : Type 0} (kind : StoreKind S) (old new : Scene S) (e : Event) : Type 0 where
   pub core : CoreKeeps old.core new.core
   pub leaves : LeavesAlone kind (span_of old new) (lent_of old.core new.core) old.core.tables e
