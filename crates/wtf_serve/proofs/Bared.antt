@@ -260,5 +260,5 @@ bare_run kind handed settings status source source' stock stock' g f p taken' (i
       w.1,
       inr (opened_by kind handed settings o.opening (at source g (Some []) stock) (at source' f (Some w.0) stock') o.opens o.given o.served.log o.served.mid
           status (w.2, refl, refl)
-          (bare_spares kind handed status o.served.log o.served.mid.shelf source source' stock stock' g f p w.0 taken' o.spares)),
+          (bare_spares kind handed status o.served.log o.served.mid.shelf source source' stock stock' g f p w.0 taken' o.spares) o.past),
     )

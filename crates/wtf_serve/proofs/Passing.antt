@@ -63,9 +63,9 @@ module _ {S State : Type 0} (engine : Engine S State) (handed : List (List ℕ) 
   StopsBy why = (came : PassCame engine h h' (Err why)) × PassSpares engine handed h h' (Err why) came
 
   short_by : (bytes : List ℕ) → CameLine h.input h'.input bytes → (kept : IsLeftAlone engine t ⊎ IsUnwritten engine t (line_of bytes))
-      → LineSpares engine.kind handed (span_of engine t) (line_of bytes) (answer_for engine t (line_of bytes) kept)
+      → LineSpares engine.kind handed (engine.settings h.state).servers (span_of engine t) (line_of bytes) (answer_for engine t (line_of bytes) kept)
       → (out : IsLeftAlone engine t ⊎ IsLeftOut engine h h') × ShortSpares engine handed h h' out
-  short_by bytes came (inl alone) spares = (inl alone, (spares.stores, subst handed spares.hands spares.handed_are))
+  short_by bytes came (inl alone) spares = (inl alone, (spares.stores, spares.past, subst handed spares.hands spares.handed_are))
   short_by bytes came (inr out) spares = (inr (record { line = bytes; came = came; out = out }), spares)
 
   stops_by : (bytes : List ℕ) (why : Stop) → CameLine h.input h'.input bytes → TurnDoes engine handed t (line_of bytes) h.sink h'.sink (Err why) → StopsBy why
@@ -102,5 +102,5 @@ module _ {S State : Type 0} (engine : Engine S State) (laws : KindLaws engine.ki
       sink = refl;
       kept = inl (record { keeper = keeper_same h.stock.keeper h.stock.keeper refl; follows = each_same laws h.stock.shelf });
     },
-    (stores_spared engine.kind (engine.down h.state) false h.stock.shelf, nothing),
+    (stores_spared engine.kind (engine.down h.state) false h.stock.shelf, λ k d there. refl, nothing),
   )

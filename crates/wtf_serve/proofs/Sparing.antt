@@ -84,11 +84,13 @@ module _ {K S : Type 0} (view : K → KeeperView) (follows : K → K → List (L
 
   -- one that was answered
   pub event_spares : (e : Event) (a : Answer) → KeeperTurn kind t k core.settings core.tables core'.tables e a → IsLine kind t core core' e a
-      → CoreStays kind (scene before (view old) core) (scene after (view new) core') e → LineSpares kind (follows old new) t (Ok e) (Some a)
+      → CoreStays kind (scene before (view old) core) (scene after (view new) core') e
+      → LineSpares kind (follows old new) core.settings.servers t (Ok e) (Some a)
   event_spares e a turn line stays =
       let (images, hands, handed) = event_hands e a turn line in
       record {
         stores = record { down = stays.leaves.down; unsynced = unsynced e stays };
+        past = stays.leaves.past;
         images = images;
         hands = hands;
         handed_are = handed;
@@ -96,19 +98,21 @@ module _ {K S : Type 0} (view : K → KeeperView) (follows : K → K → List (L
 
   -- and one for which memory was wanted
   pub short_spares : (e : Event) → CoreFails kind k (scene before (view old) core) (scene after (view new) core') e
-      → CoreStays kind (scene before (view old) core) (scene after (view new) core') e → LineSpares kind (follows old new) t (Ok e) None
+      → CoreStays kind (scene before (view old) core) (scene after (view new) core') e
+      → LineSpares kind (follows old new) core.settings.servers t (Ok e) None
   short_spares e fails stays = record {
     stores = record { down = stays.leaves.down; unsynced = λ never. fails.unsynced };
+    past = stays.leaves.past;
     images = [];
     hands = refl;
     handed_are = handed_none fails.untouched;
   }
 
 -- a line that asks nothing
-pub bad_spares : {S : Type 0} (kind : StoreKind S) (handed : List (List ℕ) → Type 0) (down : ℕ → Bool) (stores : List S) (bad : Answer) → handed []
-    → LineSpares kind handed (span down stores stores) (Err bad) (Some bad)
-bad_spares kind handed down stores bad nothing =
-    record { stores = stores_spared kind down false stores; images = []; hands = refl; handed_are = nothing }
+pub bad_spares : {S : Type 0} (kind : StoreKind S) (handed : List (List ℕ) → Type 0) (servers : ℕ) (down : ℕ → Bool) (stores : List S) (bad : Answer)
+    → handed [] → LineSpares kind handed servers (span down stores stores) (Err bad) (Some bad)
+bad_spares kind handed servers down stores bad nothing =
+    record { stores = stores_spared kind down false stores; past = λ k d there. refl; images = []; hands = refl; handed_are = nothing }
 
 -- ---- a save that was answered otherwise than `saved` has failed
 pub failed_hands : (a : Answer) (images : List (List ℕ)) → ((n : ℕ) → a ≢ answer.Saved n) → LineHands (Ok event.Save) a images → IsOneAtMost images
@@ -129,16 +133,17 @@ save_or_none kind t (Ok e) a images stores hands = inl (stores.unsynced refl, ha
 save_or_none kind t (Err bad) a images stores hands = inl (stores.unsynced refl, hands)
 
 -- ---- what comes of the closing save
-module _ {S : Type 0} (kind : StoreKind S) (handed : List (List ℕ) → Type 0) (t : Span S) where
+module _ {S : Type 0} (kind : StoreKind S) (handed : List (List ℕ) → Type 0) (servers : ℕ) (t : Span S) where
   -- it saved, with the status of a script that was read to its end
   ends_whole : (bad : Bool) → IsEndStatus (end_status bad)
   ends_whole true = inr refl
   ends_whole false = inl refl
 
-  pub saved_spares : (bad : Bool) (a : Answer) (n : ℕ) → a ≡ answer.Saved n → LineSpares kind handed t (Ok event.Save) (Some a)
-      → EndSpares kind handed t (end_status bad)
+  pub saved_spares : (bad : Bool) (a : Answer) (n : ℕ) → a ≡ answer.Saved n → LineSpares kind handed servers t (Ok event.Save) (Some a)
+      → EndSpares kind handed servers t (end_status bad)
   saved_spares bad a n is here = record {
     down = here.stores.down;
+    past = here.past;
     images = here.images;
     handed_are = here.handed_are;
     saved = λ _. (n, subst (λ (b : Answer). LineHands (Ok event.Save) b here.images) is here.hands);
@@ -147,9 +152,11 @@ module _ {S : Type 0} (kind : StoreKind S) (handed : List (List ℕ) → Type 0)
   }
 
   -- it failed
-  pub failed_spares : (a : Answer) → ((n : ℕ) → a ≢ answer.Saved n) → LineSpares kind handed t (Ok event.Save) (Some a) → EndSpares kind handed t 5
+  pub failed_spares : (a : Answer) → ((n : ℕ) → a ≢ answer.Saved n) → LineSpares kind handed servers t (Ok event.Save) (Some a)
+      → EndSpares kind handed servers t 5
   failed_spares a other here = record {
     down = here.stores.down;
+    past = here.past;
     images = here.images;
     handed_are = here.handed_are;
     saved = λ e. absurd (omega (arith, e));
@@ -158,9 +165,10 @@ module _ {S : Type 0} (kind : StoreKind S) (handed : List (List ℕ) → Type 0)
   }
 
   -- memory was wanted
-  pub wanted_spares : LineSpares kind handed t (Ok event.Save) None → EndSpares kind handed t 7
+  pub wanted_spares : LineSpares kind handed servers t (Ok event.Save) None → EndSpares kind handed servers t 7
   wanted_spares here = record {
     down = here.stores.down;
+    past = here.past;
     images = here.images;
     handed_are = here.handed_are;
     saved = λ e. absurd (omega (arith, e));
@@ -169,10 +177,11 @@ module _ {S : Type 0} (kind : StoreKind S) (handed : List (List ℕ) → Type 0)
   }
 
 -- or what the sink held back was not brought out, so that there is none
-pub unsaved_spares : {S : Type 0} (kind : StoreKind S) (handed : List (List ℕ) → Type 0) (down : ℕ → Bool) (stores : List S) → handed []
-    → EndSpares kind handed (span down stores stores) 4
-unsaved_spares kind handed down stores nothing = record {
+pub unsaved_spares : {S : Type 0} (kind : StoreKind S) (handed : List (List ℕ) → Type 0) (servers : ℕ) (down : ℕ → Bool) (stores : List S) → handed []
+    → EndSpares kind handed servers (span down stores stores) 4
+unsaved_spares kind handed servers down stores nothing = record {
   down = λ k d is. refl;
+  past = λ k d there. refl;
   images = [];
   handed_are = nothing;
   saved = λ e. absurd (omega (arith, e));
@@ -221,9 +230,9 @@ spared_none kind handed stores nothing = record { along = refl; images = []; eac
 
 pub spared_more : {S : Type 0} (kind : StoreKind S) (handed more both : List (List ℕ) → Type 0)
     → ((xs ys : List (List ℕ)) → handed xs → more ys → both (xs ++ ys)) → (log : Log) (before mid after : List S) → Spared kind handed log before mid
-    → (line : List ℕ) (a : Answer) → LineSpares kind more (span (last_downs log) mid after) (line_of line) (Some a)
+    → (servers : ℕ) (line : List ℕ) (a : Answer) → LineSpares kind more servers (span (last_downs log) mid after) (line_of line) (Some a)
     → Spared kind both (longer log line a) before after
-spared_more kind handed more both join log before mid after s line a here = record {
+spared_more kind handed more both join log before mid after s servers line a here = record {
   along = subst (λ (x : List Line). SparesAlong kind none_down x (log.answers ++ a ∷ []) before after) (sym (asked-longer log line a))
       (spares_push kind none_down (asked log) log.answers before mid after (line_of line) a s.along here.stores);
   images = s.images ++ here.images;

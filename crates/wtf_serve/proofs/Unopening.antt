@@ -36,7 +36,7 @@ module _ {S : Type 0} (kind : StoreKind S) (laws : KindLaws kind) (handed : List
           refused_mid kind laws handed few.opening (devices source out shelf k) k' kept keeper few.few,
         )
         (spares_still kind handed (record { lines = []; answers = [] }) shelf (devices source out shelf k) (devices source out shelf k')
-        (spared_none kind handed shelf kept.nothing) 2 (inl refl) refl))))
+        (spared_none kind handed shelf kept.nothing) 2 (inl refl) refl) (λ s d there. refl))))
     not_opened (Image error.Memory) status out' cause (is_7, same) = for_reason status out' (inl (is_7, same))
     not_opened (Image error.NotAnImage) status out' cause told = for_reason status out'
         (inr (inr (record { bytes = bytes; given = given; why = error.NotAnImage; refused = cause; told = told })))

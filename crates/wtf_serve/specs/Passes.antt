@@ -3,6 +3,8 @@ use Rattle.std.specs.Prelude.{◌≡◌, ◌≢◌, ◌⊎◌, ◌<◌, ◌≤�
 use Rattle.std.proofs.Common.{inl, inr}
 use Rattle.wtf_dev.specs.Counts.{Rose}
 use Rattle.wtf_dev.specs.Streams.{SourceView, SinkView}
+use Rattle.wtf_replica.specs.Outs.{SameFrom}
+use Rattle.wtf_model.specs.declared.answer.Answer.{Answer}
 use Rattle.wtf_model.specs.Lines.{Line}
 use Rattle.wtf_serve.specs.declared.service.Stop.{Stop}
 use Rattle.wtf_serve.specs.declared.service.Stop.TheVariants as stop
@@ -131,18 +133,21 @@ pub record PassIs {S State : Type 0} (engine : Engine S State) (h h' : Hand S St
 
 -- What the line of a pass left alone, where it was answered or not; without a line nothing was handed to the keeper.
 
+abbrev pub ReadSpares : {S State : Type 0} → (engine : Engine S State) (handed : List (List ℕ) → Type 0) (h h' : Hand S State) → List ℕ → Answer → Type 0
+ReadSpares engine handed h h' line a =
+    LineSpares engine.kind handed (engine.settings h.state).servers (span_of engine (step_of h h')) (line_of line) (Some a)
+
 abbrev pub ShortSpares : {S State : Type 0} → (engine : Engine S State) (handed : List (List ℕ) → Type 0) (h h' : Hand S State)
     → IsLeftAlone engine (step_of h h') ⊎ IsLeftOut engine h h' → Type 0
-ShortSpares engine handed h h' (inl alone) = SparesStores engine.kind (span_of engine (step_of h h')) false × handed []
-ShortSpares engine handed h h' (inr out) = LineSpares engine.kind handed (span_of engine (step_of h h')) (line_of out.line) (Some out.out.answer)
+ShortSpares engine handed h h' (inl alone) =
+    SparesStores engine.kind (span_of engine (step_of h h')) false × SameFrom (engine.settings h.state).servers h.stock.shelf h'.stock.shelf × handed []
+ShortSpares engine handed h h' (inr out) = ReadSpares engine handed h h' out.line out.out.answer
 
 abbrev pub PassSpares : {S State : Type 0} → (engine : Engine S State) (handed : List (List ℕ) → Type 0) (h h' : Hand S State)
     (result : Result (Option Bool) Stop) → PassCame engine h h' result → Type 0
-PassSpares engine handed h h' (Ok (Some bad)) came =
-    LineSpares engine.kind handed (span_of engine (step_of h h')) (line_of came.line) (Some came.done.answer)
+PassSpares engine handed h h' (Ok (Some bad)) came = ReadSpares engine handed h h' came.line came.done.answer
 PassSpares engine handed h h' (Ok None) came = handed []
-PassSpares engine handed h h' (Err stop.Unwritten) came =
-    LineSpares engine.kind handed (span_of engine (step_of h h')) (line_of came.line) (Some came.cut.answer)
+PassSpares engine handed h h' (Err stop.Unwritten) came = ReadSpares engine handed h h' came.line came.cut.answer
 PassSpares engine handed h h' (Err stop.Memory) came = ShortSpares engine handed h h' came.kept
 PassSpares engine handed h h' (Err why) came = handed []
 

@@ -1,7 +1,7 @@
 -- What lines leave alone of the stores, and which images they hand to the keeper.
 use Rattle.std.specs.Prelude.{◌≡◌, ◌⊎◌, ℕ, Bool, false, List, [], ◌∷◌, ◌++◌, Option, None, Some, Result, Ok, Err}
 use Rattle.wtf_dev.specs.Store.{StoreKind}
-use Rattle.wtf_replica.specs.Outs.{IsLeftDown, SameSyncs}
+use Rattle.wtf_replica.specs.Outs.{IsLeftDown, SameFrom, SameSyncs}
 use Rattle.wtf_replica.specs.Spans.{Span, span}
 use Rattle.wtf_model.specs.declared.answer.Answer.{Answer}
 use Rattle.wtf_model.specs.declared.answer.Answer.TheVariants as answer
@@ -67,16 +67,21 @@ abbrev pub MayHand : Line → Option Answer → List (List ℕ) → Type 0
 MayHand line None images = images ≡ []
 MayHand line (Some a) images = LineHands line a images
 
-pub record LineSpares {S : Type 0} (kind : StoreKind S) (handed : List (List ℕ) → Type 0) (t : Span S) (line : Line) (a : Option Answer) : Type 0 where
+-- The stores behind those of so many servers are as they were.
+pub record LineSpares {S : Type 0} (kind : StoreKind S) (handed : List (List ℕ) → Type 0) (servers : ℕ) (t : Span S) (line : Line) (a : Option Answer)
+    : Type 0 where
   pub stores : SparesStores kind t (may_sync line a)
+  pub past : SameFrom servers t.before t.after
   pub images : List (List ℕ)
   pub hands : MayHand line a images
   pub handed_are : handed images
 
--- What comes behind the last line, by the status: the closing save, which leaves each server that is down alone and hands one image to the
--- keeper, or one at most where it failed; or, with a status that says of no save, nothing is synced, and nothing handed.
-pub record EndSpares {S : Type 0} (kind : StoreKind S) (handed : List (List ℕ) → Type 0) (t : Span S) (status : ℕ) : Type 0 where
+-- What comes behind the last line, by the status: the closing save, which leaves each server that is down alone, and each store behind those of so
+-- many servers, and hands one image to the keeper, or one at most where it failed; or, with a status that says of no save, nothing is synced, and
+-- nothing handed.
+pub record EndSpares {S : Type 0} (kind : StoreKind S) (handed : List (List ℕ) → Type 0) (servers : ℕ) (t : Span S) (status : ℕ) : Type 0 where
   pub down : IsLeftDown t
+  pub past : SameFrom servers t.before t.after
   pub images : List (List ℕ)
   pub handed_are : handed images
   pub saved : IsEndStatus status → (installs : ℕ) × IsOneImage installs images

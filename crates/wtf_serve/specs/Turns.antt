@@ -70,4 +70,4 @@ turn_answer engine t line sink sink' (Err other) is = None
 pub record TurnDoes {S State : Type 0} (engine : Engine S State) (handed : List (List ℕ) → Type 0) (t : Step S State) (line : Line)
     (sink sink' : SinkView) (result : Result (Unit {0}) Stop) : Type 0 where
   pub is : TurnIs engine t line sink sink' result
-  pub spares : LineSpares engine.kind handed (span_of engine t) line (turn_answer engine t line sink sink' result is)
+  pub spares : LineSpares engine.kind handed (engine.settings t.old).servers (span_of engine t) line (turn_answer engine t line sink sink' result is)

@@ -4,6 +4,7 @@ use Rattle.wtf_base.specs.declared.settings.Settings.{Settings}
 use Rattle.wtf_dev.specs.Counts.{Rose}
 use Rattle.wtf_dev.specs.Store.{StoreKind}
 use Rattle.wtf_dev.specs.Streams.{SinkView}
+use Rattle.wtf_replica.specs.Outs.{SameFrom}
 use Rattle.wtf_image.specs.declared.error.LoadError.{LoadError}
 use Rattle.wtf_image.specs.declared.error.LoadError.TheVariants as error
 use Rattle.wtf_image.specs.Rows.{ImageRows}
@@ -74,7 +75,8 @@ pub record IsUnopened {S : Type 0} (kind : StoreKind S) (handed : List (List ℕ
   pub shelf_is : new.stock.shelf ≡ old.stock.shelf
   pub kept : IsKeeperKept handed old.stock.keeper new.stock.keeper
 
--- A run that was opened by what the keeper gave, which is what it held where it tells that
+-- A run that was opened by what the keeper gave, which is what it held where it tells that. Through all of it the stores that its settings do not
+-- have are as they were.
 pub record IsOpened {S : Type 0} (kind : StoreKind S) (handed : List (List ℕ) → Type 0) (settings : Settings) (status : ℕ)
     (old new : Devices S) : Type 0 where
   pub opening : Opening
@@ -82,6 +84,7 @@ pub record IsOpened {S : Type 0} (kind : StoreKind S) (handed : List (List ℕ) 
   pub given : (held : List ℕ) → old.stock.keeper.held ≡ Some held → opening.bytes ≡ held
   pub served : Served kind handed opening status old new
   pub spares : RunSpares kind handed status served.log served.mid.shelf old new
+  pub past : SameFrom opening.settings.servers old.stock.shelf new.stock.shelf
 
 -- a whole run, where these settings were asked for
 abbrev pub IsRunWith : {S : Type 0} → StoreKind S → (List (List ℕ) → Type 0) → Settings → ℕ → Devices S → Devices S → Type 0

@@ -19,7 +19,8 @@
 //! Over every device a run leaves alone what it has no business with, line by line (`specs/Sparing`,
 //! `specs/Spared`): the store of a server that is down stays as it is, a save alone syncs, and the keeper is
 //! handed one image for each line that was answered `saved` and one by the closing save, at most one for each
-//! save that failed, and none at the start or by any other line.
+//! save that failed, and none at the start or by any other line. The stores that the settings do not have are
+//! in the end what they were.
 //!
 //! The loop is proved of an `Engine` (`specs/Engines`), a record of what a run is given of the state that
 //! answers its lines, so neither the loop nor what a run promises names a core.

@@ -164,7 +164,7 @@ fn answer<S: SliceStore, K: Keeper>(
     ensures bad { IfErr line (λ bad. result ≡ Ok bad) }
     ensures follows { OnErr result (EachFollows S.kind shelf.old shelf.new []) }
     ensures keeper { KeeperGoesOn (K.view keeper.old) (K.view keeper.new) }
-    ensures spares { LineSpares S.kind (K.follows keeper.old keeper.new)
+    ensures spares { LineSpares S.kind (K.follows keeper.old keeper.new) core.old.settings.servers
         (span (is_down core.old.replicas) shelf.old shelf.new) line (answer_of result) }
     ensures unkept { OnErr result (KeeperStays (K.view keeper.old) (K.view keeper.new)) }
 {
@@ -289,7 +289,7 @@ fn close<S: SliceStore, K: Keeper>(
         core.old core.new) bad result }
     ensures follows { EachFollows S.kind shelf.old shelf.new [] }
     ensures keeper { KeeperGoesOn (K.view keeper.old) (K.view keeper.new) }
-    ensures spares { EndSpares S.kind (K.follows keeper.old keeper.new)
+    ensures spares { EndSpares S.kind (K.follows keeper.old keeper.new) core.old.settings.servers
         (span (is_down core.old.replicas) shelf.old shelf.new) result }
 {
     let Ok(answer) = answer(core, shelf, keeper, Ok(Event::Save)) else {
@@ -316,7 +316,7 @@ fn finish<O: Sink, S: SliceStore, K: Keeper>(
         (O.view out.old) (O.view out.new) bad result }
     ensures follows { EachFollows S.kind shelf.old shelf.new [] }
     ensures keeper { KeeperGoesOn (K.view keeper.old) (K.view keeper.new) }
-    ensures spares { EndSpares S.kind (K.follows keeper.old keeper.new)
+    ensures spares { EndSpares S.kind (K.follows keeper.old keeper.new) core.old.settings.servers
         (span (is_down core.old.replicas) shelf.old shelf.new) result }
 {
     let Ok(()) = bring_out(out) else {

@@ -49,7 +49,7 @@ returns-in_ok-answer-in-Ok-clause-spares g c =
     let is = c.in_ok-answer-in-Ok.ensures in
     let did = event_spares g.K.Keeper.view g.K.Keeper.follows g.met.K.Keeper.follows_itself g.K.Keeper.refused c.args.keeper.now c.take.new.keeper kind
     c.args.shelf.now c.take.new.shelf c.args.core.now c.take.new.self c.in-Ok.event c.in_ok-answer-in-Ok.answer is.does.kept.turn is.does.turn is.stays in
-    subst (λ (e : Line). LineSpares kind (g.K.Keeper.follows c.args.keeper.now c.take.new.keeper)
+    subst (λ (e : Line). LineSpares kind (g.K.Keeper.follows c.args.keeper.now c.take.new.keeper) c.args.core.now.settings.servers
     (span (is_down c.args.core.now.replicas) c.args.shelf.now c.take.new.shelf) e (Some c.in_ok-answer-in-Ok.answer)) (sym c.in-Ok.is) did
 
 pub returns-in_ok-answer-in-Ok-clause-keeper : goal.returns-in_ok-answer-in-Ok-clause-keeper

@@ -44,17 +44,18 @@ returns-clause-spares g c =
     let kind = g.S.SliceStore.kind in
     let handed = g.K.Keeper.follows c.args.keeper.now c.answer.new.keeper in
     let t = span (is_down c.args.core.now.replicas) c.args.shelf.now c.answer.new.shelf in
+    let servers = c.args.core.now.settings.servers in
     let spares = c.in-Ok.ensures.spares in
     elim c.match-answer-2.branch [
       | in-Saved w ↦
-          subst (λ (n : ℕ). EndSpares kind handed t n) (sym (w.result-is ∙ w.ended.ensures))
-          (saved_spares kind handed t c.args.bad c.in-Ok.answer w.in-Saved.field-0 w.in-Saved.is spares)
+          subst (λ (n : ℕ). EndSpares kind handed servers t n) (sym (w.result-is ∙ w.ended.ensures))
+          (saved_spares kind handed servers t c.args.bad c.in-Ok.answer w.in-Saved.field-0 w.in-Saved.is spares)
       | in_default-answer w ↦
-          subst (λ (n : ℕ). EndSpares kind handed t n) (sym w.result-is)
-          (failed_spares kind handed t c.in-Ok.answer (λ n. w.in_default-answer.not-Saved n) spares)
+          subst (λ (n : ℕ). EndSpares kind handed servers t n) (sym w.result-is)
+          (failed_spares kind handed servers t c.in-Ok.answer (λ n. w.in_default-answer.not-Saved n) spares)
     ]
 
 pub returns-in_default-clause-spares : goal.returns-in_default-clause-spares
 returns-in_default-clause-spares g c =
-    wanted_spares g.S.SliceStore.kind (g.K.Keeper.follows c.args.keeper.now c.answer.new.keeper)
+    wanted_spares g.S.SliceStore.kind (g.K.Keeper.follows c.args.keeper.now c.answer.new.keeper) c.args.core.now.settings.servers
     (span (is_down c.args.core.now.replicas) c.args.shelf.now c.answer.new.shelf) c.in_default.ensures.spares

@@ -20,8 +20,8 @@ returns-in_default-clause-keeper g c = keeper_steady (g.K.Keeper.view c.args.kee
 
 pub returns-in_default-clause-spares : goal.returns-in_default-clause-spares
 returns-in_default-clause-spares g c =
-    unsaved_spares g.S.SliceStore.kind (g.K.Keeper.follows c.args.keeper.now c.args.keeper.now) (is_down c.args.core.now.replicas) c.args.shelf.now
-    (g.met.K.Keeper.follows_itself c.args.keeper.now)
+    unsaved_spares g.S.SliceStore.kind (g.K.Keeper.follows c.args.keeper.now c.args.keeper.now) c.args.core.now.settings.servers
+    (is_down c.args.core.now.replicas) c.args.shelf.now (g.met.K.Keeper.follows_itself c.args.keeper.now)
 
 pub returns-clause-ends : goal.returns-clause-ends
 returns-clause-ends g c = record {
