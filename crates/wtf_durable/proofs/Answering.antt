@@ -199,7 +199,7 @@ module _ {S D : Type 0} (stores : DiskKind S) (kind : DiskKind D) (old mid : Dur
 -- what a line leaves alone, whatever is known of the lists then
 pub stores_left : {S : Type 0} (kind : StoreKind S) (t : Span S) (old mid : CoreView) (e : Event)
     → LeavesAlone kind t (lent_of old mid) old.tables e → LeavesStores kind t old e
-stores_left kind t old mid e leaves = record { down = leaves.down; syncs = leaves.syncs; lists = mid.lists; files = leaves.files }
+stores_left kind t old mid e leaves = record { down = leaves.down; past = leaves.past; syncs = leaves.syncs; lists = mid.lists; files = leaves.files }
 
 -- a count that rose later rose
 pub rose_later : (a b c : ℕ) → a ≤ b → Rose b c → Rose a c

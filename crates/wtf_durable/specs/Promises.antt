@@ -5,7 +5,7 @@ use Rattle.wtf_dev.specs.Store.{StoreKind}
 use Rattle.wtf_journal.specs.Follows.{synced_kind}
 use Rattle.wtf_journal.specs.Records.{RestsAt}
 use Rattle.wtf_imagefmt.specs.Saving.{IsSaveOf}
-use Rattle.wtf_replica.specs.Outs.{HasSynced, IsLeftDown}
+use Rattle.wtf_replica.specs.Outs.{HasSynced, IsLeftDown, SameFrom}
 use Rattle.wtf_replica.specs.Spans.{Span}
 use Rattle.wtf_region.specs.Cached.{Remembered}
 use Rattle.wtf_clients.specs.Asked.{lending, line_asked}
@@ -68,10 +68,11 @@ pub record SavesStores {S : Type 0} (kind : StoreKind S) (t : Span S) (servers :
   pub synced : (n : ℕ) → e ≡ event.Save → a ≡ answer.Saved n → (j : ℕ) → j < servers → HasSynced kind t.before t.after j
   pub out : a ≡ answer.FaultSave → SomeOut kind t servers
 
--- What an event leaves alone of the stores that is not answered: each store of a server that is down; all syncs, but in a save; and each file, but the
--- one to which its bytes were to go.
+-- What an event leaves alone of the stores that is not answered: each store of a server that is down, and each that the settings do not have; all
+-- syncs, but in a save; and each file, but the one to which its bytes were to go, which grows by them once.
 pub record LeavesStores {S : Type 0} (kind : StoreKind S) (t : Span S) (old : CoreView) (e : Event) : Type 0 where
   pub down : IsLeftDown t
+  pub past : SameFrom old.settings.servers t.before t.after
   pub syncs : SyncsNone kind t e
   pub lists : Remembered
   pub files : GrowsOnly kind t (line_asked kind t (lending old.settings old.lists lists) old.tables e)
