@@ -198,7 +198,7 @@ fn collect(
     ensures ready { OnOk result (IsGcReady dev.new kv.now gc.new) }
     ensures lent { IsSameLent dev.old dev.new }
 {
-    if k >= dev.shelf.len() {
+    if k >= dev.settings.servers {
         return Err(Fail::from("no such server"));
     }
     match gc.collect(dev, k) {
