@@ -201,8 +201,17 @@ sofar_err old now line next rest middle held left then new TooMuch s p f few = s
 sofar_err old now line next rest middle held left then new Memory s p f few = absurd f
 
 -- memory ran out while a line was put together
-pub sofar_memory : (old now : Held) (line rest : List ℕ) (left : Option (List ℕ)) (new : Held) → Sofar old now line rest left → Reads old rest new left (Err Memory)
-sofar_memory old now line rest left new s = (s.got, s.then, s.split, s.left_is)
+pub sofar_memory : (old now : Held) (line rest : List ℕ) (left : Option (List ℕ)) (new : Held) → Sofar old now line rest left → new.bytes ≡ now.bytes
+    → Reads old rest new left (Err Memory)
+sofar_memory old now line rest left new s same = (
+  s.got,
+  s.then,
+  s.whole,
+  s.split,
+  s.left_is,
+  s.held ∙ ap (λ (l : List ℕ). s.whole ++ l) (sym same),
+  s.plain,
+)
 
 -- the source has `to` left, and so many bytes came
 pub counted_here : (old now : Held) (line rest to : List ℕ) (left : Option (List ℕ)) (count : ℕ) → Sofar old now line rest left → left ≡ Some to → count ≡ now.count

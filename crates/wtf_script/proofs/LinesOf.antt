@@ -1,5 +1,6 @@
 -- Laws of the lines of a script.
-use Rattle.std.proofs.Common.{◌≡◌, ℕ, suc, ◌==◌, ◌<◌, Bool, false, cond, List, [], ◌∷◌, ◌++◌, length, refl, sym, ◌∙◌, ap, arith, append_assoc, inl, inr}
+use Rattle.std.proofs.Common.{◌≡◌, ℕ, suc, ◌==◌, ◌+◌, ◌<◌, ◌≤◌, Bool, false, cond, List, [], ◌∷◌, ◌++◌, length, take, refl, sym, ◌∙◌, ap, arith, append_assoc, inl, inr}
+use Rattle.std.proofs.Common.{length-append}
 use Rattle.std.specs.List.{All}
 use Rattle.std.proofs.lemmas.List.Elements.{Contains-append_cases}
 use Rattle.std.proofs.lemmas.List.{append-nil}
@@ -63,3 +64,21 @@ fed-push (first ∷ lines) line =
     ap (λ (bytes : List ℕ). (first ++ line_feed ∷ []) ++ bytes) (fed-push lines line)
     ∙ sym (append_assoc (first ++ line_feed ∷ []) (fed lines ++ line) (line_feed ∷ []))
     ∙ ap (λ (bytes : List ℕ). bytes ++ line_feed ∷ []) (sym (append_assoc (first ++ line_feed ∷ []) (fed lines) line))
+
+-- a byte before the first line makes that line longer, or is one
+first_longer : (b : ℕ) (lines : List (List ℕ)) → length (fed (take 1 lines)) + 1 ≤ length (fed (take 1 (before_first b lines)))
+first_longer b [] = omega arith
+first_longer b (line ∷ lines) = omega arith
+
+-- a part without a line feed is no longer than the line that begins with it
+pub next_len : (part tail : List ℕ) → HasNoFeed part → length part ≤ length (fed (take 1 (lines_of (part ++ tail))))
+next_len [] tail plain = omega arith
+next_len (b ∷ bs) tail plain =
+    let rest = next_len bs tail (no_feed_rest b bs plain) in
+    let longer = first_longer b (lines_of (bs ++ tail)) in
+    omega (arith, rest, longer, ap (λ (ls : List (List ℕ)). length (fed (take 1 ls))) (lines_step b (bs ++ tail) (no_feed_head b bs plain)))
+
+pub fed_both : (xs ys : List (List ℕ)) → length (fed (xs ++ ys)) ≡ length (fed xs) + length (fed ys)
+fed_both [] ys = omega arith
+fed_both (x ∷ xs) ys =
+    omega (arith, fed_both xs ys, length-append (x ++ line_feed ∷ []) (fed (xs ++ ys)), length-append (x ++ line_feed ∷ []) (fed xs))

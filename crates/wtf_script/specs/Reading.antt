@@ -44,8 +44,11 @@ abbrev pub ReadsTooMuch : Held → List ℕ → Option (List ℕ) → Type 0
 ReadsTooMuch old rest left = MatchBool (nat_lt SCRIPT_BYTES old.count) (left ≡ Some rest)
     ((came : List ℕ) × (b : ℕ) × (then : List ℕ) × (rest ≡ came ++ b ∷ then) × (left ≡ Some then) × HasNoFeed (old.bytes ++ came))
 
-abbrev pub ReadsSome : List ℕ → Option (List ℕ) → Type 0
-ReadsSome rest left = (came : List ℕ) × (then : List ℕ) × (rest ≡ came ++ then) × (left ≡ Some then)
+-- Memory ran out while a line was put together: some bytes came, and of those and the ones held the first are gone, without a line feed
+-- among them
+abbrev pub ReadsShort : Held → List ℕ → Held → Option (List ℕ) → Type 0
+ReadsShort old rest new left =
+    (came : List ℕ) × (then : List ℕ) × (gone : List ℕ) × (rest ≡ came ++ then) × (left ≡ Some then) × (old.bytes ++ came ≡ gone ++ new.bytes) × HasNoFeed gone
 
 abbrev pub Reads : Held → List ℕ → Held → Option (List ℕ) → Result (Option Line) ReadError → Type 0
 Reads old rest new left (Ok (Some (line.Whole bytes))) = (length bytes ≤ LINE_BYTES) × ReadsLine bytes old rest new left
@@ -53,7 +56,7 @@ Reads old rest new left (Ok (Some line.Long)) = (bytes : List ℕ) × (LINE_BYTE
 Reads old rest new left (Ok None) = ReadsEnd old rest new left
 Reads old rest new left (Err read_error.Failed) = ReadsFault old rest left
 Reads old rest new left (Err read_error.TooMuch) = ReadsTooMuch old rest left
-Reads old rest new left (Err read_error.Memory) = ReadsSome rest left
+Reads old rest new left (Err read_error.Memory) = ReadsShort old rest new left
 
 -- the result is a line, given or too long
 abbrev pub IsLine : Result (Option Line) ReadError → Type 0
@@ -97,9 +100,9 @@ pub record IsRefilled (old new : Held) (before after : SourceView) (result : Res
   pub faults : before.faults ≤ after.faults
   pub cause : result ≡ Err read_error.Failed → Rose before.faults after.faults
 
--- Bytes held go onto a line, of which one byte more than it may have is kept: up to a line feed, or all of them
+-- Bytes held go onto a line, of which one byte more than it may have is kept: up to a line feed, or all of them; without memory none goes
 abbrev pub Parts : List ℕ → List ℕ → List ℕ → List ℕ → Result Bool OutOfMemory → Type 0
 Parts old line left now (Ok true) =
     (bytes : List ℕ) × (old ≡ bytes ++ line_feed ∷ left) × (now ≡ take (LINE_BYTES + 1) (line ++ bytes)) × HasNoFeed bytes
 Parts old line left now (Ok false) = (left ≡ []) × (now ≡ take (LINE_BYTES + 1) (line ++ old)) × HasNoFeed old
-Parts old line left now (Err e) = Unit {0}
+Parts old line left now (Err e) = left ≡ old

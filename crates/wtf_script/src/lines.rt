@@ -75,8 +75,8 @@ impl Lines {
     /// Reads up to the end of the next line, and gives it; `None` once the source is at its end. Bytes that
     /// were read behind a line stay for the next call, and a source is asked only while no line feed is held.
     /// It is not asked again once its end was seen, or once it gave more than a script may have. After a
-    /// fault what was read of the line is gone, and the next call goes on behind it; for want of memory some
-    /// of the line may be gone.
+    /// fault what was read of the line is gone, and the next call goes on behind it; for want of memory a
+    /// first part of the line may be gone.
     pub fn next<I: Source>(&mut self, source: &mut I) -> Result<Option<Line>, ReadError>
         // The lines of the bytes that were left, however the source cuts them.
         ensures told { (rest : List ℕ) → (I.view source.old).rest ≡ Some rest →

@@ -50,7 +50,7 @@ use Rattle.wtf_serve.proofs.Picturing.{holds_on, starts_on, start_on, next_saved
 use Rattle.wtf_serve.proofs.PunchLaws.{only_still}
 use Rattle.wtf_serve.proofs.RanLaws.{longer, lawful_more, last_more, so_far_more}
 use Rattle.wtf_serve.proofs.Rising.{up_faults}
-use Rattle.wtf_serve.proofs.Telling.{told_more, told_front, told_end, told_held, told_fault, told_much, told_other}
+use Rattle.wtf_serve.proofs.Telling.{told_more, told_front, told_end, told_held, told_fault, told_much, told_short, told_other, short_end}
 
 ends_as : (bad : Bool) → IsEndStatus (end_status bad)
 ends_as true = inr refl
@@ -338,6 +338,7 @@ module _ {S State : Type 0} (engine : Engine S State) (laws : KindLaws engine.ki
         (λ early. absurd (omega (arith, early))) (λ whole. absurd (omega (arith, whole)))
         (λ script e. told_other script now.input.source.rest next.input.source.rest now.input.held g.log.lines 7 (λ d. omega (arith, d)) (λ d. omega (arith, d))
         (λ d. omega (arith, d)) (λ d. absurd (omega (arith, d)))
+        (λ _. short_end script now.input.source.rest next.input.source.rest now.input.held next.input.held g.log.lines (g.read script e) came.came.0)
         (g.read script e))
         (sink_out 7 (λ e. omega (arith, e))) (λ e. omega (arith, e))
         (never 7 9 (λ e. omega (arith, e)) next.input.held.count (came.limit (λ e. cc))) (inr (inr (inr (inr (inl refl)))))
@@ -508,7 +509,8 @@ module _ {S State : Type 0} (engine : Engine S State) (laws : KindLaws engine.ki
       finish 7 next.sink next.stock (Err stop.Memory) pass rest (λ other. absurd (other refl)) by_line follows pass.keeper
       (λ early. absurd (omega (arith, early))) (λ whole. absurd (omega (arith, whole)))
       (λ script e. told_other script now.input.source.rest next.input.source.rest now.input.held g.log.lines 7 (λ d. omega (arith, d)) (λ d. omega (arith, d))
-      (λ d. omega (arith, d)) (λ d. absurd (omega (arith, d))) (g.read script e))
+      (λ d. omega (arith, d)) (λ d. absurd (omega (arith, d)))
+      (λ _. told_short now.input next.input script g.log.lines pass.drawn.few (g.read script e) pass.came.came) (g.read script e))
       (sink_same 7 now.sink next.sink (λ e. omega (arith, e)) pass.came.sink) (λ e. omega (arith, e))
       (never 7 9 (λ e. omega (arith, e)) next.input.held.count (pass.limit (λ e. cc))) (inr (inr (inr (inr (inl refl))))) (λ ends. absurd (omega (arith, ends)))
       (λ e. absurd (omega (arith, e)))
@@ -557,7 +559,7 @@ module _ {S State : Type 0} (engine : Engine S State) (laws : KindLaws engine.ki
         unstarted = λ e. absurd (cc);
         sound = λ _. g.taken;
         read = λ script e. told_other script next.input.source.rest next.input.source.rest next.input.held (g.log.lines ++ line ∷ []) 4 (λ d. omega (arith, d))
-            (λ d. omega (arith, d)) (λ d. omega (arith, d)) (λ _. (refl, pass.drawn.few))
+            (λ d. omega (arith, d)) (λ d. omega (arith, d)) (λ _. (refl, pass.drawn.few)) (λ d. absurd (omega (arith, d)))
             (told_more script now.input.source.rest next.input.source.rest now.input.held next.input.held g.log.lines line (g.read script e) pass.came.came);
         wrote = λ text e. record {
           whole = λ _ is. absurd (is refl);

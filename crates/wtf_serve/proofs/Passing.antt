@@ -16,7 +16,7 @@ use Rattle.wtf_model.specs.Lines.{Line as AskedLine}
 use Rattle.wtf_serve.specs.declared.service.Stop.{Stop}
 use Rattle.wtf_serve.specs.declared.service.Stop.TheVariants as stop
 use Rattle.wtf_serve.specs.Engines.{Engine, Step, span_of}
-use Rattle.wtf_serve.specs.Passes.{Input, HasLine, CameLine, CameStop, Hand, hand, step_of, IsLeftOut, PassCame, ShortSpares, PassSpares}
+use Rattle.wtf_serve.specs.Passes.{Input, HasLine, CameLine, CameShort, CameStop, Hand, hand, step_of, IsLeftOut, PassCame, ShortSpares, PassSpares}
 use Rattle.wtf_serve.specs.Scripts.{line_of}
 use Rattle.wtf_serve.specs.Sparing.{LineSpares}
 use Rattle.wtf_serve.specs.Turns.{IsLeftAlone, IsUnwritten, answer_for, TurnDoes}
@@ -53,6 +53,11 @@ line_long i i' r is told less =
     long_of i i' i.source.rest refl (λ rest e. subst (λ x. Reads i.held rest i'.held i'.source.rest x) is (told rest e))
     (less (subst (λ x. IsLine x) (sym is) tt))
 
+-- no memory was found behind a line that was read
+pub short_line : (i i' : Input) (bytes : List ℕ) (r : Result (Option Line) ReadError) → r ≡ Ok (Some (line.Whole bytes))
+    → ((rest : List ℕ) → i.source.rest ≡ Some rest → Reads i.held rest i'.held i'.source.rest r) → CameShort i i'
+short_line i i' bytes r is told = inr (bytes, λ rest e. (subst (λ x. Reads i.held rest i'.held i'.source.rest x) is (told rest e)).1)
+
 -- ---- a line was read, and it was not answered, or its answer was not written whole
 module _ {S State : Type 0} (engine : Engine S State) (handed : List (List ℕ) → Type 0) (h h' : Hand S State) where
   abbrev t : Step S State
@@ -72,7 +77,7 @@ module _ {S State : Type 0} (engine : Engine S State) (handed : List (List ℕ) 
   stops_by bytes stop.Unwritten came turn = (record { line = bytes; came = came; cut = turn.is }, turn.spares)
   stops_by bytes stop.Memory came turn =
       let (kept, spares) = short_by bytes came turn.is.1 turn.spares in
-      (record { sink = turn.is.0; kept = kept }, spares)
+      (record { came = inr (bytes, came); sink = turn.is.0; kept = kept }, spares)
   stops_by bytes why came turn = absurd turn.is
 
   pub pass_stops : (asked : AskedLine) (why : Stop) → HasLine h.input h'.input asked → TurnDoes engine handed t asked h.sink h'.sink (Err why) → StopsBy why
@@ -99,6 +104,7 @@ module _ {S State : Type 0} (engine : Engine S State) (laws : KindLaws engine.ki
   pass_unread stop.Unwritten why = absurd why
   pass_unread stop.Memory why = (
     record {
+      came = why;
       sink = refl;
       kept = inl (record { keeper = keeper_same h.stock.keeper h.stock.keeper refl; follows = each_same laws h.stock.shelf });
     },

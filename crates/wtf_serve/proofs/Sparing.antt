@@ -15,7 +15,7 @@ use Rattle.wtf_model.specs.declared.event.Event.TheVariants as event
 use Rattle.wtf_model.specs.Lines.{Line, state_after}
 use Rattle.wtf_model.specs.Servers.{none_down, down_after, downs_after}
 use Rattle.wtf_core.specs.Keeping.{KeeperSpan, keeper_span, KeeperTurn, Hands}
-use Rattle.wtf_core.specs.Promises.{CoreStays, CoreFails, scene}
+use Rattle.wtf_core.specs.Promises.{CoreStays, scene}
 use Rattle.wtf_core.specs.Saves.{SaveTurn, AreUp}
 use Rattle.wtf_core.specs.Turns.{IsLine}
 use Rattle.wtf_core.specs.Views.{TablesView, CoreView}
@@ -95,24 +95,6 @@ module _ {K S : Type 0} (view : K → KeeperView) (follows : K → K → List (L
         hands = hands;
         handed_are = handed;
       }
-
-  -- and one for which memory was wanted
-  pub short_spares : (e : Event) → CoreFails kind k (scene before (view old) core) (scene after (view new) core') e
-      → CoreStays kind (scene before (view old) core) (scene after (view new) core') e
-      → LineSpares kind (follows old new) core.settings.servers t (Ok e) None
-  short_spares e fails stays = record {
-    stores = record { down = stays.leaves.down; unsynced = λ never. fails.unsynced };
-    past = stays.leaves.past;
-    images = [];
-    hands = refl;
-    handed_are = handed_none fails.untouched;
-  }
-
--- a line that asks nothing
-pub bad_spares : {S : Type 0} (kind : StoreKind S) (handed : List (List ℕ) → Type 0) (servers : ℕ) (down : ℕ → Bool) (stores : List S) (bad : Answer)
-    → handed [] → LineSpares kind handed servers (span down stores stores) (Err bad) (Some bad)
-bad_spares kind handed servers down stores bad nothing =
-    record { stores = stores_spared kind down false stores; past = λ k d there. refl; images = []; hands = refl; handed_are = nothing }
 
 -- ---- a save that was answered otherwise than `saved` has failed
 pub failed_hands : (a : Answer) (images : List (List ℕ)) → ((n : ℕ) → a ≢ answer.Saved n) → LineHands (Ok event.Save) a images → IsOneAtMost images

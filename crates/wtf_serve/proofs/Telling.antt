@@ -1,5 +1,5 @@
 -- What was read of a script so far, where the source tells it.
-use Rattle.std.proofs.Common.{◌≡◌, ◌≢◌, ◌<◌, ◌≤◌, ◌+◌, ℕ, Bool, true, false, List, [], ◌∷◌, ◌++◌, length, Option, Some, refl, sym, ◌∙◌, ap, subst, arith}
+use Rattle.std.proofs.Common.{◌≡◌, ◌≢◌, ◌<◌, ◌≤◌, ◌+◌, ℕ, suc, Bool, true, false, List, [], ◌∷◌, ◌++◌, length, Option, Some, refl, sym, ◌∙◌, ap, subst, arith, take}
 use Rattle.std.proofs.Common.{append_assoc, inl, inr, length-append}
 use Rattle.std.specs.List.{All}
 use Rattle.std.specs.Bool.{MatchBool}
@@ -8,10 +8,11 @@ use Rattle.std.proofs.lemmas.List.{append-nil}
 use Rattle.std.proofs.lemmas.List.Elements.{All-append, All-nil, All-cons}
 use Rattle.wtf_script.specs.declared.limits.TheConstants.{CHUNK_BYTES, SCRIPT_BYTES}
 use Rattle.wtf_script.specs.ScriptLines.{line_feed, lines_of, ended_of, fed, HasNoFeed}
-use Rattle.wtf_script.specs.Reading.{Held, ReadsLine, ReadsEnd, ReadsFault, ReadsTooMuch}
+use Rattle.wtf_script.specs.Reading.{Held, ReadsLine, ReadsEnd, ReadsFault, ReadsTooMuch, ReadsShort}
+use Rattle.wtf_serve.specs.Passes.{Input, CameShort}
 use Rattle.wtf_serve.specs.Scripts.{IsWholeStatus}
-use Rattle.wtf_serve.specs.Traces.{CameNoMore, HasRead}
-use Rattle.wtf_script.proofs.LinesOf.{lines_of-fed, ended_of-fed, fed-push, lines_of-plain, ended_of-plain}
+use Rattle.wtf_serve.specs.Traces.{CameNoMore, with_next, HasRead}
+use Rattle.wtf_script.proofs.LinesOf.{lines_of-fed, ended_of-fed, fed-push, fed_both, next_len, lines_of-plain, ended_of-plain}
 
 -- the lines came, and the reader holds the next bytes; when it has seen the end, these were all
 pub record Told (script : List ℕ) (left : Option (List ℕ)) (held : Held) (lines : List (List ℕ)) : Type 0 where
@@ -121,6 +122,7 @@ told_end script left left' held held' lines told came status ends = record {
   whole = λ _. end_at script left left' held held' lines held.ended refl told (came told.rest told.left_is);
   fault = λ e. absurd (omega (arith, e, ends));
   unwritten = λ e. absurd (omega (arith, e, ends));
+  short = λ e. absurd (omega (arith, e, ends));
   too_much = λ e. absurd (omega (arith, e, ends));
 }
 
@@ -150,6 +152,7 @@ told_held script left left' held held' lines told came =
         none,
         omega (arith, whole_at script left left' held held' lines held.ended refl told reads),
       );
+      short = λ e. absurd (omega (arith, e));
       too_much = λ e. absurd (omega (arith, e));
     }
 
@@ -185,6 +188,7 @@ told_fault script left left' held held' lines unended told reads =
             (held.bytes ++ came) was.1 plain,
       );
       unwritten = λ e. absurd (omega (arith, e));
+      short = λ e. absurd (omega (arith, e));
       too_much = λ e. absurd (omega (arith, e));
     }
 
@@ -213,6 +217,7 @@ told_much script left left' held held' lines unended few told reads counted =
       whole = λ e. absurd (omega (arith, e));
       fault = λ e. absurd (omega (arith, e));
       unwritten = λ e. absurd (omega (arith, e));
+      short = λ e. absurd (omega (arith, e));
       too_much = λ _. (
         fed lines ++ (held.bytes ++ came),
         b,
@@ -239,15 +244,97 @@ no_more_at script left held lines false is few told = (
   omega (arith, few, length-append (fed lines) held.bytes),
 )
 
+-- the lines that were answered, with the script's next one
+next_of : (lines more : List (List ℕ)) → take (length lines + 1) (lines ++ more) ≡ lines ++ take 1 more
+next_of [] more = let one : length {A = List ℕ} [] + 1 ≡ 1 = omega arith in ap (λ (n : ℕ). take n more) one
+next_of (line ∷ lines) more =
+    let longer : length (line ∷ lines) + 1 ≡ suc (length lines + 1) = omega arith in
+    ap (λ (n : ℕ). take n (line ∷ (lines ++ more))) longer ∙ ap (λ (ls : List (List ℕ)). line ∷ ls) (next_of lines more)
+
+with_next_is : (script : List ℕ) (lines more : List (List ℕ)) → lines_of script ≡ lines ++ more → with_next script lines ≡ lines ++ take 1 more
+with_next_is script lines more is = ap (λ (ls : List (List ℕ)). take (length lines + 1) ls) is ∙ next_of lines more
+
+next_fed : (script : List ℕ) (lines more : List (List ℕ)) → lines_of script ≡ lines ++ more
+    → length (fed (with_next script lines)) ≡ length (fed lines) + length (fed (take 1 more))
+next_fed script lines more is = ap (λ (ls : List (List ℕ)). length (fed ls)) (with_next_is script lines more is) ∙ fed_both lines (take 1 more)
+
+-- no memory was found at the end
+pub short_end : (script : List ℕ) (left left' : Option (List ℕ)) (held held' : Held) (lines : List (List ℕ)) → Told script left held lines
+    → ((rest : List ℕ) → left ≡ Some rest → ReadsEnd held rest held' left') → CameNoMore script left' (with_next script lines)
+short_end script left left' held held' lines told came =
+    let reads = came told.rest told.left_is in
+    let (more, is) = told_front script left held lines told in (
+      script,
+      [],
+      sym (append-nil script),
+      (end_at script left left' held held' lines held.ended refl told reads).1,
+      omega (arith, whole_at script left left' held held' lines held.ended refl told reads, next_fed script lines more is),
+    )
+
+-- while a line was read
+part_at : (script : List ℕ) (left left' : Option (List ℕ)) (held held' : Held) (lines : List (List ℕ)) (b : Bool) → held.ended ≡ b
+    → length held'.bytes ≤ CHUNK_BYTES → (told : Told script left held lines) → ReadsShort held told.rest held' left'
+    → CameNoMore script left' (with_next script lines)
+part_at script left left' held held' lines true is few told (came, tail, gone, rest_is, left_is, held_is, plain) =
+    let (more, front) = told_front script left held lines told in
+    let none : held.bytes ++ told.rest ≡ [] = (told.over is).1 in
+    let last : tail ≡ [] = nil_right came tail (sym rest_is ∙ nil_right held.bytes told.rest none) in (
+      script,
+      [],
+      sym (append-nil script),
+      left_is ∙ ap (λ (x : List ℕ). Some x) last,
+      omega (arith, told.most, ap length none, next_fed script lines more front),
+    )
+part_at script left left' held held' lines false is few told (came, tail, gone, rest_is, left_is, held_is, plain) =
+    let was = told.going is in
+    let behind : held.bytes ++ told.rest ≡ gone ++ (held'.bytes ++ tail)
+    = ap (λ (x : List ℕ). held.bytes ++ x) rest_is ∙ sym (append_assoc held.bytes came tail) ∙ ap (λ (x : List ℕ). x ++ tail) held_is
+    ∙ append_assoc gone held'.bytes tail in
+    let front : lines_of script ≡ lines ++ lines_of (gone ++ (held'.bytes ++ tail))
+    = ap lines_of was.0 ∙ lines_of-fed lines (held.bytes ++ told.rest) was.1
+    ∙ ap (λ (x : List ℕ). lines ++ lines_of x) behind in (
+      fed lines ++ (held.bytes ++ came),
+      tail,
+      came_of script lines held.bytes told.rest came tail was.0 rest_is,
+      left_is,
+      omega (
+        arith,
+        few,
+        length-append (fed lines) (held.bytes ++ came),
+        ap length held_is,
+        length-append gone held'.bytes,
+        next_len gone (held'.bytes ++ tail) plain,
+        next_fed script lines (lines_of (gone ++ (held'.bytes ++ tail))) front,
+      ),
+    )
+
+-- or behind a line that was
+line_at : (script : List ℕ) (left' : Option (List ℕ)) (held' : Held) (lines : List (List ℕ)) (line : List ℕ) → length held'.bytes ≤ CHUNK_BYTES
+    → Told script left' held' (lines ++ line ∷ []) → CameNoMore script left' (with_next script lines)
+line_at script left' held' lines line few told =
+    let (more, front) = told_front script left' held' (lines ++ line ∷ []) told in
+    let is : with_next script lines ≡ lines ++ line ∷ []
+    = with_next_is script lines (line ∷ more) (front ∙ append_assoc lines (line ∷ []) more) in
+    subst (λ (ls : List (List ℕ)). CameNoMore script left' ls) (sym is) (no_more_at script left' held' (lines ++ line ∷ []) held'.ended refl few told)
+
+pub told_short : (i i' : Input) (script : List ℕ) (lines : List (List ℕ)) → length i'.held.bytes ≤ CHUNK_BYTES → Told script i.source.rest i.held lines
+    → CameShort i i' → CameNoMore script i'.source.rest (with_next script lines)
+told_short i i' script lines few told (inl part) =
+    part_at script i.source.rest i'.source.rest i.held i'.held lines i.held.ended refl few told (part told.rest told.left_is)
+told_short i i' script lines few told (inr (line, came)) =
+    line_at script i'.source.rest i'.held lines line few (told_more script i.source.rest i'.source.rest i.held i'.held lines line told came)
+
 -- the run ends after these lines for another reason
 pub told_other : (script : List ℕ) (left left' : Option (List ℕ)) (held : Held) (lines : List (List ℕ)) (status : ℕ) → (IsWholeStatus status → ⊥) → status ≢ 3
     → status ≢ 9
-    → (status ≡ 4 → (left' ≡ left) × (length held.bytes ≤ CHUNK_BYTES)) → Told script left held lines → HasRead script left' status lines
-told_other script left left' held lines status not_0 not_3 not_9 few told = record {
+    → (status ≡ 4 → (left' ≡ left) × (length held.bytes ≤ CHUNK_BYTES)) → (status ≡ 7 → CameNoMore script left' (with_next script lines))
+    → Told script left held lines → HasRead script left' status lines
+told_other script left left' held lines status not_0 not_3 not_9 few short told = record {
   front = told_front script left held lines told;
   whole = λ e. absurd (not_0 e);
   fault = λ e. absurd (not_3 e);
   unwritten = λ e. let (same, least) = few e in subst (λ (x : Option (List ℕ)). CameNoMore script x lines) (sym same)
       (no_more_at script left held lines held.ended refl least told);
+  short = short;
   too_much = λ e. absurd (not_9 e);
 }

@@ -52,7 +52,7 @@ module _ {S : Type 0} (kind : StoreKind S) (laws : KindLaws kind) (handed : List
         sound = λ is. elim is [ inl started ↦ absurd (cc) | inr four ↦ taken four ];
         read = λ script e. told_other script start.source.rest start.source.rest (record { bytes = []; count = 0; ended = false }) [] status
             (λ d. omega (arith, d, which)) (λ d. omega (arith, d, which)) (λ d. omega (arith, d, which)) (λ _. (refl, omega arith))
-            (told_none script start.source.rest e);
+            (λ _. ([], script, refl, e, omega arith)) (told_none script start.source.rest e);
         wrote = λ old e. record {
           whole = λ is. absurd (cc);
           cut = λ is. absurd (cc);

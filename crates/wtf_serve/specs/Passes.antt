@@ -9,7 +9,7 @@ use Rattle.wtf_model.specs.Lines.{Line}
 use Rattle.wtf_serve.specs.declared.service.Stop.{Stop}
 use Rattle.wtf_serve.specs.declared.service.Stop.TheVariants as stop
 use Rattle.wtf_script.specs.declared.limits.TheConstants.{CHUNK_BYTES, SCRIPT_BYTES}
-use Rattle.wtf_script.specs.Reading.{Held, ReadsLine, ReadsEnd, ReadsFault, ReadsTooMuch, Counts, Draws, work}
+use Rattle.wtf_script.specs.Reading.{Held, ReadsLine, ReadsEnd, ReadsFault, ReadsTooMuch, ReadsShort, Counts, Draws, work}
 use Rattle.wtf_serve.specs.Scripts.{line_of}
 use Rattle.wtf_serve.specs.Engines.{Engine, Step, span_of}
 use Rattle.wtf_serve.specs.Sparing.{SparesStores, LineSpares}
@@ -40,6 +40,11 @@ pub record HasLine (i i' : Input) (asked : Line) : Type 0 where
 abbrev pub CameEnd : Input → Input → Type 0
 CameEnd i i' = (rest : List ℕ) → i.source.rest ≡ Some rest → ReadsEnd i.held rest i'.held i'.source.rest
 
+-- no memory was found while a line was read, or behind one that was
+abbrev pub CameShort : Input → Input → Type 0
+CameShort i i' =
+    ((rest : List ℕ) → i.source.rest ≡ Some rest → ReadsShort i.held rest i'.held i'.source.rest) ⊎ ((line : List ℕ) × CameLine i i' line)
+
 -- why there is neither
 abbrev pub CameStop : Input → Input → Stop → Type 0
 CameStop i i' stop.Unread =
@@ -48,7 +53,7 @@ CameStop i i' stop.Unread =
 CameStop i i' stop.TooMuch =
     ((rest : List ℕ) → i.source.rest ≡ Some rest → ReadsTooMuch i.held rest i'.source.rest)
     × (i'.held.count ≡ SCRIPT_BYTES + 1) × (i.held.ended ≢ true)
-CameStop i i' stop.Memory = Unit {0}
+CameStop i i' stop.Memory = CameShort i i'
 CameStop i i' stop.Unwritten = ⊥
 
 abbrev pub Came : Input → Input → Result (Option Line) Stop → Type 0
@@ -110,8 +115,10 @@ pub record IsQuiet {S State : Type 0} (h h' : Hand S State) : Type 0 where
   pub state : h'.state ≡ h.state
   pub sink : h'.sink ≡ h.sink
 
--- for want of memory nothing is written, and the keeper is as it was, and nothing was punched, unless a line was answered before
+-- for want of memory at most one line was read, nothing is written, and the keeper is as it was, and nothing was punched, unless that line was
+-- answered
 pub record IsShortOfMemory {S State : Type 0} (engine : Engine S State) (h h' : Hand S State) : Type 0 where
+  pub came : CameShort h.input h'.input
   pub sink : h'.sink ≡ h.sink
   pub kept : IsLeftAlone engine (step_of h h') ⊎ IsLeftOut engine h h'
 

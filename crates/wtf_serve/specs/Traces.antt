@@ -1,5 +1,5 @@
 -- What a run read of its script, and what it wrote, where source and sink tell it.
-use Rattle.std.specs.Prelude.{◌≡◌, ◌≢◌, ◌⊎◌, ◌≤◌, ◌+◌, ℕ, Bool, true, false, List, [], ◌∷◌, ◌++◌, length, Option, Some}
+use Rattle.std.specs.Prelude.{◌≡◌, ◌≢◌, ◌⊎◌, ◌≤◌, ◌+◌, ℕ, Bool, true, false, List, [], ◌∷◌, ◌++◌, length, take, Option, Some}
 use Rattle.wtf_model.specs.declared.answer.Answer.{Answer}
 use Rattle.wtf_script.specs.declared.limits.TheConstants.{CHUNK_BYTES, SCRIPT_BYTES}
 use Rattle.wtf_script.specs.ScriptLines.{lines_of, ended_of, fed}
@@ -13,6 +13,10 @@ abbrev pub CameNoMore : List ℕ → Option (List ℕ) → List (List ℕ) → T
 CameNoMore script left lines =
     (came : List ℕ) × (rest : List ℕ) × (script ≡ came ++ rest) × (left ≡ Some rest) × (length came ≤ length (fed lines) + CHUNK_BYTES)
 
+-- the lines that were answered, with the script's next one, if it has one
+abbrev pub with_next : List ℕ → List (List ℕ) → List (List ℕ)
+with_next script lines = take (length lines + 1) (lines_of script)
+
 -- What was read of the script, where the source tells it, by the status that the run ended with
 pub record HasRead (script : List ℕ) (left : Option (List ℕ)) (status : ℕ) (lines : List (List ℕ)) : Type 0 where
   -- the lines that were answered are the first ones
@@ -23,6 +27,8 @@ pub record HasRead (script : List ℕ) (left : Option (List ℕ)) (status : ℕ)
   pub fault : status ≡ 3 → (came : List ℕ) × (rest : List ℕ) × (script ≡ came ++ rest) × (left ≡ Some rest) × (lines ≡ ended_of came)
   -- 4: with the lines that were answered, their line feeds and at most one chunk more
   pub unwritten : status ≡ 4 → CameNoMore script left lines
+  -- 7: with those and the next line, their line feeds and at most one chunk more
+  pub short : status ≡ 7 → CameNoMore script left (with_next script lines)
   -- 9: each line that a line feed ended within the limit
   pub too_much : status ≡ 9 → (came : List ℕ) × (b : ℕ) × (rest : List ℕ) × (script ≡ came ++ b ∷ rest) × (left ≡ Some rest) × (length came ≡ SCRIPT_BYTES)
       × (lines ≡ ended_of came)

@@ -11,7 +11,8 @@ few count h = grind (arith, nat_tests)
 pub returns-in_err-take_part-clause-told : goal.returns-in_err-take_part-clause-told
 returns-in_err-take_part-clause-told g c = λ rest h.
     let p = err_from_is_err_and c.from_residual.result c.from_residual.ensures.1 in
-    rw (p.1, p.2) (sofar_memory c.args.self.now c.loop-line.self c.loop-line.line.items rest _ c.take_part.new.self (c.loop-line.invariant.told rest h))
+    rw (p.1, p.2) (sofar_memory c.args.self.now c.loop-line.self c.loop-line.line.items rest _ c.take_part.new.self (c.loop-line.invariant.told rest h)
+    c.in_err-take_part.ensures.parts)
 
 pub returns-in_err-take_part-clause-counted : goal.returns-in_err-take_part-clause-counted
 returns-in_err-take_part-clause-counted g c = λ rest left h k.
