@@ -1,6 +1,7 @@
 -- What the first save of a store whose journal has no record leaves, by the flags of its keeper.
 use Rattle.std.proofs.Common.{◌≡◌, ◌≢◌, ◌⊎◌, ℕ, Bool, true, false, List, Ok, Err, refl, sym, ap, ◌∙◌, subst, inl, inr, ⊎_elim, true≢false}
-use Rattle.std.specs.Prelude.{Result, IfOk, IsErrOf, IsOk, OnErr, OnOk}
+use Rattle.std.specs.Prelude.{Result, IfOk, IsErrOf, IsOk, OnErr, OnOk, [], slice_index_or}
+use Rattle.wtf_base.specs.declared.settings.Settings.{Settings}
 use Rattle.wtf_dev.specs.Counts.{Rose}
 use Rattle.wtf_dev.specs.Disk.{DiskKind}
 use Rattle.wtf_dev.specs.Store.{StoreKind}
@@ -8,7 +9,7 @@ use Rattle.wtf_journal.specs.declared.keeper.JournalKeeper.{JournalKeeper}
 use Rattle.wtf_journal.specs.Follows.{SyncedState, synced_kind}
 use Rattle.wtf_journal.specs.Keeper.{journal_keeper_view}
 use Rattle.wtf_replica.specs.Downs.{is_down}
-use Rattle.wtf_replica.specs.Outs.{HasRisen, SameLengths}
+use Rattle.wtf_replica.specs.Outs.{HasRisen, SameFrom, SameLengths}
 use Rattle.wtf_replica.specs.Spans.{Span}
 use Rattle.wtf_model.specs.declared.answer.Answer.{Answer}
 use Rattle.wtf_model.specs.declared.answer.Answer.TheVariants as answer
@@ -19,11 +20,12 @@ use Rattle.wtf_clients.specs.Outcomes.{SomeOut}
 use Rattle.wtf_clients.specs.Views.{TablesView}
 use Rattle.wtf_core.specs.Promises.{CoreDoes, CoreFails, CoreStays, scene}
 use Rattle.wtf_core.specs.Views.{CoreView}
+use Rattle.wtf_serve.specs.Openings.{Opening, Opens, new_opening}
 use Rattle.wtf_durable.specs.declared.fault.DurableFault.{DurableFault}
 use Rattle.wtf_durable.specs.declared.fault.DurableFault.TheVariants as fault
-use Rattle.wtf_durable.specs.Found.{IsBegun}
+use Rattle.wtf_durable.specs.Found.{IsBegun, IsFoundBy}
 use Rattle.wtf_durable.specs.Handled.{Handled, HandsImages}
-use Rattle.wtf_durable.specs.Views.{DurableView, ReachesGate, durable_scene}
+use Rattle.wtf_durable.specs.Views.{DurableScene, DurableView, ReachesGate, durable_scene}
 use Rattle.wtf_durable.proofs.Handling.{hands_by, save_cause, the_span, turn_span}
 use Rattle.wtf_durable.proofs.Judging.{cause_result, handed_by, handled_result}
 
@@ -31,6 +33,27 @@ use Rattle.wtf_durable.proofs.Judging.{cause_result, handed_by, handled_result}
 pub save_lengths : {S : Type 0} (kind : StoreKind S) (t : Span S) (lent : Lending) (tables : TablesView) → LeavesAlone kind t lent tables event.Save
     → SameLengths kind t.before t.after
 save_lengths kind t lent tables leaves = ⊎_elim (λ same. same) (λ grown. absurd grown.1.3) leaves.files
+
+-- beginning leaves the settings
+pub begun_settings : {S D : Type 0} (stores : DiskKind S) (kind : DiskKind D) (fresh : Bool) (old new : DurableScene S D) → IsBegun stores kind fresh old new
+    → new.durable.core.settings ≡ old.durable.core.settings
+begun_settings stores kind true old new (n, saved) = saved.stays.settings
+begun_settings stores kind false old new same = ap (λ s. s.durable.core.settings) same
+
+-- with no record in its journal a store has the settings that are asked for
+none_settings : (asked : Settings) (image : List ℕ) (opening : Opening) → Opens asked opening.bytes opening → opening.bytes ≡ image → image ≡ []
+    → opening.settings ≡ asked
+none_settings asked image opening opens bytes none =
+    let new : opening ≡ new_opening asked = subst (λ b. Opens asked b opening) (bytes ∙ none) opens in ap (λ (o : Opening). o.settings) new
+
+-- so the stores are spared that these do not have; and where it has one all are
+pub spared_unused : {S D : Type 0} (stores : DiskKind S) (kind : DiskKind D) (asked : Settings) (shelf shelf' : List (SyncedState S)) (disk : D × D)
+    (d : DurableView) (fresh : Bool) → IsFoundBy stores kind asked shelf disk d fresh → (fresh ≡ false → shelf' ≡ shelf)
+    → SameFrom d.core.settings.servers shelf shelf' → SameFrom asked.servers shelf shelf'
+spared_unused stores kind asked shelf shelf' disk d true is untouched past =
+    subst (λ (s : Settings). SameFrom s.servers shelf shelf')
+    (is.core.ready.settings ∙ none_settings asked is.image is.core.opening is.core.opens is.core.bytes_are is.fresh_is) past
+spared_unused stores kind asked shelf shelf' disk d false is untouched past = λ k s there. ap (λ x. slice_index_or x k s) (untouched refl)
 
 module _ {S D E : Type 0} (stores : DiskKind S) (kind : DiskKind D) (k k' : JournalKeeper D) (shelf shelf' : List (SyncedState S)) (core core' : CoreView)
     (s : Result Answer E)

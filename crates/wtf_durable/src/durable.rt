@@ -11,7 +11,7 @@ ghost use Rattle.wtf_model.specs.Form.{IsFormEvent};
 ghost use Rattle.wtf_core.specs.Named.{IsInside};
 ghost use Rattle.wtf_core.specs.Promises.{Watches};
 ghost use Rattle.wtf_replica.specs.Downs.{is_down};
-ghost use Rattle.wtf_replica.specs.Outs.{HasRisen, SameLengths};
+ghost use Rattle.wtf_replica.specs.Outs.{HasRisen, SameFrom, SameLengths};
 ghost use Rattle.wtf_replica.specs.Spans.{span};
 ghost use Rattle.wtf_model.specs.declared.answer.Answer.{Answer};
 ghost use Rattle.wtf_model.specs.declared.answer.Answer.TheVariants as answer;
@@ -57,9 +57,9 @@ impl Model for Durable {
 
 impl Durable {
     /// Opens the journal on a disk, over stores that have the bytes which its image names. A journal without a record begins with these
-    /// settings, and the image of the root alone is saved to it at once. No file of a store grows. A stop at any moment leaves a journal that
-    /// stands for what it could stand for before, and for nothing else, or that has this image in the place of no record. One that stands
-    /// for nothing keeps its bytes.
+    /// settings, and the image of the root alone is saved to it at once. No file of a store grows, and no store is touched that the settings do
+    /// not have. A stop at any moment leaves a journal that stands for what it could stand for before, and for nothing else, or that has this
+    /// image in the place of no record. One that stands for nothing keeps its bytes.
     pub fn open<S: Disk, D: Disk>(
         alloc: Global,
         settings: Settings,
@@ -78,6 +78,8 @@ impl Durable {
             OpeningSurvives S.kind D.kind settings shelf.old disk.old left }
         ensures follows { EachFollows (synced_kind S.kind) shelf.old shelf.new [] }
         ensures lengths { SameLengths (synced_kind S.kind) shelf.old shelf.new }
+        ensures past { IfOk result (λ d. SameFrom d.core.settings.servers shelf.old shelf.new) }
+        ensures unused { OnErr result (SameFrom settings.servers shelf.old shelf.new) }
         ensures goes_on { DiskGoesOn D.kind disk.old disk.new }
         ensures elsewhere { (D.kind.view disk.old).tells ≡ true →
             SameElsewhere 0 (D.kind.view disk.old) (D.kind.view disk.new) }
@@ -118,6 +120,8 @@ impl Durable {
             (durable_scene shelf.new disk.new self.new)) }
         ensures hands { HandsImages D.kind disk.old disk.new self.old.journal.end self.old.core }
         ensures fresh { fresh ≡ false → disk.new ≡ disk.old }
+        ensures untouched { fresh ≡ false → shelf.new ≡ shelf.old }
+        ensures past { SameFrom self.old.core.settings.servers shelf.old shelf.new }
         ensures follows { EachFollows (synced_kind S.kind) shelf.old shelf.new [] }
         ensures lengths { SameLengths (synced_kind S.kind) shelf.old shelf.new }
         ensures saving { IsErr result → fresh ≡ true }

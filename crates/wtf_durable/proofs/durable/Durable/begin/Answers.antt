@@ -1,4 +1,5 @@
-use Rattle.std.proofs.Common.{rules, ◌≡◌, true, OnOk, refl, sym, ap, ◌∙◌, subst}
+use Rattle.std.proofs.Common.{rules, ◌≡◌, true, OnOk, refl, sym, ap, ◌∙◌, subst, true≢false}
+use Rattle.wtf_replica.specs.Outs.{SameFrom}
 use Rattle.wtf_durable.specs.Found.{IsBegun}
 use Rattle.wtf_durable.specs.Views.{DurableView, durable_scene}
 use Rattle.wtf_durable.proofs.Beginning.{begin_cause, begin_hands, begun_by, save_lengths}
@@ -40,6 +41,16 @@ returns-clause-cause g c =
 
 pub returns-clause-lengths : goal.returns-clause-lengths
 returns-clause-lengths g c = save_lengths _ _ _ _ c.save-saved.ensures.stays.leaves
+
+pub returns-clause-past : goal.returns-clause-past
+returns-clause-past g c =
+    subst (λ (d : DurableView). SameFrom d.core.settings.servers c.args.shelf.now c.save-saved.new.shelf) c.self.view_is
+    c.save-saved.ensures.stays.leaves.past
+
+pub returns-clause-untouched : goal.returns-clause-untouched
+returns-clause-untouched g c =
+    λ old.
+    let is : true ≡ c.args.fresh = search rules in absurd (true≢false (is ∙ old))
 
 pub returns-clause-saving : goal.returns-clause-saving
 returns-clause-saving g c =

@@ -1,8 +1,13 @@
 use Rattle.std.proofs.Common.{is_err, ℕ, Bool, Err, inl, inr, ⊎_elim, sym, ap, ◌∙◌, subst}
+use Rattle.wtf_base.specs.declared.settings.Settings.{Settings}
 use Rattle.wtf_journal.specs.Moments.{goes_on_on}
+use Rattle.wtf_replica.specs.Outs.{SameFrom}
+use Rattle.wtf_core.specs.Views.{CoreView}
 use Rattle.wtf_durable.specs.declared.fault.Unopened.{Unopened}
 use Rattle.wtf_durable.specs.Opened.{UnopenedFor}
+use Rattle.wtf_durable.specs.Views.{DurableView, durable_scene}
 use Rattle.wtf_durable.proofs.Answering.{rose_later}
+use Rattle.wtf_durable.proofs.Beginning.{begun_settings, spared_unused}
 use Rattle.wtf_durable.proofs.OpenStops.{found_survives, none_given, opens_durable, unfound_survives}
 use Rattle.wtf_durable.proofs.durable.Durable.open.Goals as goal
 
@@ -100,3 +105,24 @@ returns-in-Ok-watch-clause-elsewhere g c = λ tells f ne.
 pub returns-in-Err-watch-clause-elsewhere : goal.returns-in-Err-watch-clause-elsewhere
 returns-in-Err-watch-clause-elsewhere g c = λ tells f ne.
     c.begin.ensures.hands.elsewhere (c.found.ensures.goes_on.tells ∙ tells) f ne ∙ c.found.ensures.elsewhere tells f ne
+
+-- ---- stores that the settings do not have
+pub returns-in-Ok-watch-clause-past : goal.returns-in-Ok-watch-clause-past
+returns-in-Ok-watch-clause-past g c =
+    let found : DurableView = record { core = c.in-Ok.found.core; journal = c.in-Ok.found.journal } in
+    let same = begun_settings g.S.Disk.kind g.D.Disk.kind c.in-Ok.found.fresh (durable_scene c.args.shelf.now c.found.new.disk found)
+    (durable_scene c.begin.new.shelf c.begin.new.disk c.begin.new.self) c.in-Ok-begin.ensures.begun in
+    subst (λ (s : Settings). SameFrom s.servers c.args.shelf.now c.begin.new.shelf)
+    (sym (ap (λ (core : CoreView). core.settings) c.in-Ok-watch.ensures.watches.rest ∙ same)) c.begin.ensures.past
+
+pub returns-in-Err-begin-clause-unused : goal.returns-in-Err-begin-clause-unused
+returns-in-Err-begin-clause-unused g c =
+    spared_unused g.S.Disk.kind g.D.Disk.kind c.args.settings c.args.shelf.now c.begin.new.shelf (c.args.disk.now, c.found.new.disk)
+    (record { core = c.in-Ok.found.core; journal = c.in-Ok.found.journal }) c.in-Ok.found.fresh c.in-Ok.ensures.found c.begin.ensures.untouched
+    c.begin.ensures.past
+
+pub returns-in-Err-watch-clause-unused : goal.returns-in-Err-watch-clause-unused
+returns-in-Err-watch-clause-unused g c =
+    spared_unused g.S.Disk.kind g.D.Disk.kind c.args.settings c.args.shelf.now c.begin.new.shelf (c.args.disk.now, c.found.new.disk)
+    (record { core = c.in-Ok.found.core; journal = c.in-Ok.found.journal }) c.in-Ok.found.fresh c.in-Ok.ensures.found c.begin.ensures.untouched
+    c.begin.ensures.past
