@@ -1,2 +1,4 @@
 pub mod LineLaws
+pub mod Saving
+pub mod Adding
 pub mod Exits

@@ -1,4 +1,5 @@
 pub mod Engine
 pub mod Breaks
+pub mod Added
 pub mod Refusals
 pub mod Runs

@@ -1,5 +1,5 @@
 -- What a journaled run promises.
-use Rattle.std.specs.Prelude.{◌≡◌, ◌⊎◌, ◌≤◌, ◌+◌, ◌^◌, ℕ, true, List, [], length, Option, None, Some, ⊤}
+use Rattle.std.specs.Prelude.{◌≡◌, ◌≢◌, ◌⊎◌, ◌≤◌, ◌+◌, ◌^◌, ℕ, true, List, [], length, Option, None, Some, ⊤}
 use Rattle.wtf_base.specs.declared.settings.Settings.{Settings}
 use Rattle.wtf_dev.specs.Counts.{Rose}
 use Rattle.wtf_dev.specs.Disk.{DiskGoesOn, DiskKind, MayLeave}
@@ -10,7 +10,7 @@ use Rattle.wtf_journal.specs.Follows.{SyncedState, synced_kind}
 use Rattle.wtf_journal.specs.Held.{held_by}
 use Rattle.wtf_journal.specs.Scan.{IsBadAt}
 use Rattle.wtf_replica.specs.Bytes.{byte_at}
-use Rattle.wtf_replica.specs.Outs.{SameLengths}
+use Rattle.wtf_replica.specs.Outs.{SameFrom, SameLengths}
 use Rattle.wtf_model.specs.Machines.{Machine}
 use Rattle.wtf_model.specs.Tree.{Tree}
 use Rattle.wtf_words.specs.Words.{Request, numbers}
@@ -24,6 +24,7 @@ use Rattle.wtf_durable.specs.declared.fault.Unopened.{Unopened}
 use Rattle.wtf_durable.specs.Opened.{IsGivenBy, LeavesRecords, OpeningSurvives, UnopenedFor}
 use Rattle.wtf_durable.specs.Stops.{LeavesStore, Leftover, StoresLeft, StoresMayLeave}
 use Rattle.wtf_durable.specs.Views.{blind}
+use Rattle.wtf_journaled.specs.Added.{AddedRecords}
 use Rattle.wtf_journaled.specs.Breaks.{MayGive, text_status}
 use Rattle.wtf_journaled.specs.Refusals.{EndsUnopened}
 
@@ -71,7 +72,8 @@ module _ {S D : Type 0} (stores : DiskKind S) (kind : DiskKind D) where
       (kind.view old.disk).tells ≡ true → (left : Leftover) → StoresLeft stores old.shelf new.shelf left.stores
       → kind.left_since new.disk (kind.view old.disk).moment left.journal → OpeningSurvives stores kind asked old.shelf old.disk left
 
-  -- a run whose journal was not opened: nothing was read, nothing was punched, and no file of a store grew
+  -- a run whose journal was not opened: nothing was read, nothing was punched, no file of a store grew, and no store behind those that were asked
+  -- for was touched
   pub record IsUnopened (asked : Settings) (status : ℕ) (old new : JournaledDevices S D) : Type 0 where
     pub why : Unopened
     pub cause : UnopenedFor stores kind asked old.shelf new.shelf old.disk new.disk why
@@ -79,14 +81,17 @@ module _ {S D : Type 0} (stores : DiskKind S) (kind : DiskKind D) where
     pub source_is : new.source ≡ old.source
     pub follows : EachFollows (synced_kind stores) old.shelf new.shelf []
     pub lengths : SameLengths (synced_kind stores) old.shelf new.shelf
+    pub past : SameFrom asked.servers old.shelf new.shelf
     pub goes_on : DiskGoesOn kind old.disk new.disk
     pub safe : BeginsSafely asked old new
 
   -- The journal was opened, behind which the stores and the disk are these: it has no bad record, and its image, or that it has none, opens the run. No
-  -- file of a store grew, and the journal has the records that it had; behind changes one of their image, and where it had none that of the root.
+  -- file of a store grew, no store was touched that the settings do not have, and the journal has the records that it had; behind changes one of their
+  -- image, and where it had none that of the root.
   pub record HasBegun (asked : Settings) (old : JournaledDevices S D) (shelf : List (SyncedState S)) (disk : D) (opening : Opening) : Type 0 where
     pub follows : EachFollows (synced_kind stores) old.shelf shelf []
     pub lengths : SameLengths (synced_kind stores) old.shelf shelf
+    pub past : SameFrom opening.settings.servers old.shelf shelf
     pub goes_on : DiskGoesOn kind old.disk disk
     pub safe : BeginsSafely asked old (on_devices old.source old.sink shelf disk)
     pub sane : (kind.view old.disk).tells ≡ true → (n : ℕ) → IsBadAt held_by None ((kind.view old.disk).file 0).seen n → ⊥
@@ -104,8 +109,16 @@ module _ {S D : Type 0} (stores : DiskKind S) (kind : DiskKind D) where
       → (final : Machine) × IsLast (last opening t log) old.source.rest log.lines status final
       × LeavesStore left final (opening.next_tx + length log.lines + 1)
 
+  -- Where the devices tell their content: the run added to the records that opening left an image for each line that answered `saved`, and changes for
+  -- each install, and no others.
+  abbrev pub AddsRecords : (old : JournaledDevices S D) → List (SyncedState S) → D → Opening → (new : JournaledDevices S D) → Log → Type 0
+  AddsRecords old shelf disk opening new log =
+      TellsAll (synced_kind stores) shelf → (kind.view old.disk).tells ≡ true → (t : Tree) → StartsFrom (byte_at (synced_kind stores) shelf) opening.bytes t
+      → AddedRecords kind disk new.disk opening t log
+
   -- A run that was opened. What `Served` says of a keeper says nothing here; and with status 5 it is as for want of memory: the answer of the line at
-  -- which the journal failed is not written.
+  -- which the journal failed is not written. In all of it no store was touched that its settings do not have. With the statuses 5 and 7 one line more
+  -- may have added records of its own.
   pub record IsOpened (asked : Settings) (status : ℕ) (old new : JournaledDevices S D) : Type 0 where
     pub shelf : List (SyncedState S)
     pub disk : D
@@ -115,6 +128,8 @@ module _ {S D : Type 0} (stores : DiskKind S) (kind : DiskKind D) where
         (blind_devices kind new)
     pub cause : status ≡ 5 → FailsAtNext kind disk new.disk old.source.rest served.log.lines
     pub lasts : LastsBehind old shelf opening status new served.log
+    pub past : SameFrom opening.settings.servers old.shelf new.shelf
+    pub adds : status ≢ 5 → status ≢ 7 → AddsRecords old shelf disk opening new served.log
 
   -- a run of a script, where these settings were asked for
   abbrev pub IsJournaledRun : Settings → ℕ → (old new : JournaledDevices S D) → Type 0

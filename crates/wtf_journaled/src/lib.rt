@@ -6,7 +6,9 @@
 //!
 //! What a run promises is one record (`specs/Runs`): what `wtf_serve` says of its lines, its answers and its ends,
 //! and what a stop leaves then: a store that the next run can begin with, where the stores and the disk tell their
-//! content. It has the tree behind the lines that were answered, or behind the line that ended the run as well.
+//! content. It has the tree behind the lines that were answered, or behind the line that ended the run as well. The
+//! stores that the settings do not have are in the end what they were. What a run adds to the journal is counted
+//! (`specs/Added`): an image for each line that saved, and changes for each install.
 //!
 //! The loop's proof is that of `wtf_serve`, for the engine of `specs/Engine`: a durable store with its journal's
 //! disk, whose journal stands for the machine as well.

@@ -5,17 +5,18 @@ ghost use Rattle.wtf_dev.specs.Counts.{Rose};
 ghost use Rattle.wtf_dev.specs.Disk.{DiskGoesOn};
 ghost use Rattle.wtf_dev.specs.Each.{EachFollows};
 ghost use Rattle.wtf_journal.specs.Follows.{synced_kind};
+ghost use Rattle.wtf_replica.specs.Outs.{SameFrom};
 ghost use Rattle.wtf_script.specs.declared.limits.TheConstants.{SCRIPT_BYTES};
 ghost use Rattle.wtf_serve.specs.Answering.{IsFormLine};
 ghost use Rattle.wtf_serve.specs.Engines.{IsAnswer, step};
-ghost use Rattle.wtf_serve.specs.Passes.{PassIs, hand, input};
+ghost use Rattle.wtf_serve.specs.Passes.{hand, input};
 ghost use Rattle.wtf_serve.specs.Scripts.{settings_line};
 ghost use Rattle.wtf_serve.specs.Stocks.{stock};
-ghost use Rattle.wtf_serve.specs.Turns.{TurnIs};
 ghost use Rattle.wtf_serve.specs.declared.service.Stop.TheVariants as stop;
 ghost use Rattle.wtf_durable.specs.declared.fault.DurableFault.TheVariants as fault;
 ghost use Rattle.wtf_durable.specs.Views.{blind, durable_scene};
 ghost use Rattle.wtf_journaled.specs.declared.halt.Halt.TheVariants as halt;
+ghost use Rattle.wtf_journaled.specs.Added.{LineAdds, PassAdds, TurnAdds};
 ghost use Rattle.wtf_journaled.specs.Breaks.{FailsAt, PassBreaks, SurvivesLine, stopped};
 ghost use Rattle.wtf_journaled.specs.Engine.{IsSoundJournaled, journaled, journaled_engine};
 
@@ -43,10 +44,13 @@ fn answer<S: Disk, D: Disk>(
         (step (stock shelf.old (blind (D.kind.view disk.old)))
         (stock shelf.new (blind (D.kind.view disk.new)))
         (journaled durable.old disk.old) (journaled durable.new disk.new)) line) }
+    ensures added { IfOk result (LineAdds D.kind (journaled durable.old disk.old)
+        (journaled durable.new disk.new) line) }
     ensures survives { OnErr result (SurvivesLine S.kind D.kind
         (durable_scene shelf.old disk.old durable.old)
         (durable_scene shelf.new disk.new durable.new) line) }
     ensures follows { OnErr result (EachFollows (synced_kind S.kind) shelf.old shelf.new []) }
+    ensures past { SameFrom durable.old.core.settings.servers shelf.old shelf.new }
     ensures goes_on { DiskGoesOn D.kind disk.old disk.new }
     ensures cause { IsErrOf result fault.Journal →
         Rose (D.kind.view disk.old).faults (D.kind.view disk.new).faults }
@@ -94,7 +98,7 @@ fn turn<O: Sink, S: Disk, D: Disk>(
     requires next_tx { durable.old.core.tables.next_tx < 2 ^ 63 }
     requires form { IsFormLine line }
     requires sound { IsSoundJournaled S.kind D.kind shelf.old (journaled durable.old disk.old) }
-    ensures turn { TurnIs (journaled_engine S.kind D.kind)
+    ensures turn { TurnAdds S.kind D.kind
         (step (stock shelf.old (blind (D.kind.view disk.old)))
         (stock shelf.new (blind (D.kind.view disk.new)))
         (journaled durable.old disk.old) (journaled durable.new disk.new))
@@ -103,6 +107,7 @@ fn turn<O: Sink, S: Disk, D: Disk>(
         SurvivesLine S.kind D.kind (durable_scene shelf.old disk.old durable.old)
         (durable_scene shelf.new disk.new durable.new) line }
     ensures faults { (O.view out.old).faults ≤ (O.view out.new).faults }
+    ensures past { SameFrom durable.old.core.settings.servers shelf.old shelf.new }
     ensures goes_on { DiskGoesOn D.kind disk.old disk.new }
     ensures cause { IsErrOf result halt.Journal →
         Rose (D.kind.view disk.old).faults (D.kind.view disk.new).faults }
@@ -136,7 +141,7 @@ pub(crate) fn pass<I: Source, O: Sink, S: Disk, D: Disk>(
     requires number { durable.old.core.tables.kv.number < 2 ^ 63 }
     requires next_tx { durable.old.core.tables.next_tx < 2 ^ 63 }
     requires sound { IsSoundJournaled S.kind D.kind shelf.old (journaled durable.old disk.old) }
-    ensures pass { PassIs (journaled_engine S.kind D.kind)
+    ensures pass { PassAdds S.kind D.kind
         (hand (input (I.view script.old) reader.old.lines) (O.view out.old)
         (stock shelf.old (blind (D.kind.view disk.old))) (journaled durable.old disk.old))
         (hand (input (I.view script.new) reader.new.lines) (O.view out.new)
@@ -148,6 +153,7 @@ pub(crate) fn pass<I: Source, O: Sink, S: Disk, D: Disk>(
         (stock shelf.old (blind (D.kind.view disk.old))) (journaled durable.old disk.old))
         (hand (input (I.view script.new) reader.new.lines) (O.view out.new)
         (stock shelf.new (blind (D.kind.view disk.new))) (journaled durable.new disk.new)) }
+    ensures past { SameFrom durable.old.core.settings.servers shelf.old shelf.new }
     ensures goes_on { DiskGoesOn D.kind disk.old disk.new }
     ensures cause { IsErrOf result halt.Journal →
         FailsAt D.kind (input (I.view script.old) reader.old.lines)

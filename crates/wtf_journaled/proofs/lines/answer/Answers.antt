@@ -6,8 +6,10 @@ use Rattle.wtf_serve.specs.Answering.{IsFormLine}
 use Rattle.wtf_serve.specs.Engines.{IsAnswer, step}
 use Rattle.wtf_serve.specs.Stocks.{stock}
 use Rattle.wtf_durable.specs.Views.{blind, durable_scene}
+use Rattle.wtf_journaled.specs.Added.{LineAdds}
 use Rattle.wtf_journaled.specs.Breaks.{SurvivesLine}
 use Rattle.wtf_journaled.specs.Engine.{journaled, journaled_engine}
+use Rattle.wtf_journaled.proofs.Adding.{bad_adds, event_adds}
 use Rattle.wtf_journaled.proofs.LineLaws.{bad_is, disk_same, event_is, event_survives}
 use Rattle.wtf_journaled.proofs.lines.answer.Goals as goal
 
@@ -46,3 +48,24 @@ returns-in-Err-clause-is g c =
 
 pub returns-in-Err-clause-goes_on : goal.returns-in-Err-clause-goes_on
 returns-in-Err-clause-goes_on g c = disk_same g.D.Disk.kind c.args.disk.now
+
+pub returns-in_ok-answer-in-Ok-clause-past : goal.returns-in_ok-answer-in-Ok-clause-past
+returns-in_ok-answer-in-Ok-clause-past g c = c.in_ok-answer-in-Ok.ensures.does.leaves.past
+
+pub returns-in_err-answer-in-Ok-clause-past : goal.returns-in_err-answer-in-Ok-clause-past
+returns-in_err-answer-in-Ok-clause-past g c = c.in_err-answer-in-Ok.ensures.leaves.past
+
+pub returns-in_ok-answer-in-Ok-clause-added : goal.returns-in_ok-answer-in-Ok-clause-added
+returns-in_ok-answer-in-Ok-clause-added g c =
+    let stores = g.S.Disk.kind in
+    let kind = g.D.Disk.kind in
+    let old = durable_scene c.args.shelf.now c.args.disk.now c.args.durable.now in
+    let new = durable_scene c.event.new.shelf c.event.new.disk c.event.new.self in
+    let a = c.in_ok-answer-in-Ok.answer in
+    subst (λ (e : Line). LineAdds kind (journaled old.durable old.disk) (journaled new.durable new.disk) e a) (sym c.in-Ok.is)
+    (event_adds stores kind old new c.in-Ok.event a c.requires.sound.durable c.in_ok-answer-in-Ok.ensures.does)
+
+pub returns-in-Err-clause-added : goal.returns-in-Err-clause-added
+returns-in-Err-clause-added g c =
+    let here = journaled c.args.durable.now c.args.disk.now in
+    subst (λ (e : Line). LineAdds g.D.Disk.kind here here e c.in-Err.bad) (sym c.in-Err.is) (bad_adds g.S.Disk.kind g.D.Disk.kind here c.in-Err.bad)
